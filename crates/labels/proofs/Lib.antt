@@ -1,0 +1,4 @@
+pub mod Wrongs
+pub mod Digits
+pub mod Same
+pub mod Sixes

@@ -1,0 +1,4 @@
+pub mod Characters
+pub mod Numbers
+pub mod Labels
+pub mod Examples

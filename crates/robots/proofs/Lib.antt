@@ -1,0 +1,4 @@
+pub mod Acts
+pub mod Places
+pub mod Moving
+pub mod Makings

@@ -1,0 +1,7 @@
+pub mod Meaning
+pub mod Acts
+pub mod Search
+pub mod Slips
+pub mod Movement
+pub mod Cartridges
+pub mod Making

@@ -1,0 +1,45 @@
+//! A lift gives a slip, which is spent where the cartridge is set down or put back.
+
+ghost use Rattle.robots.specs.Acts.{lifted, setDown, setRefusal, withHeld};
+ghost use Rattle.robots.specs.Slips.{setBySlip, slipAnswer};
+ghost use Rattle.std.specs.declared.option.Option.the-variants.{None};
+ghost use mathlib.Core.Path.{_≡_};
+use crate::fault::Fault;
+use crate::robot::Robot;
+
+mod token;
+
+pub use token::Slip;
+
+/// Lifts the cartridge at p, and gives the slip for it.
+pub fn lift<R: Robot>(robot: &mut R, p: u16) -> Result<Slip, Fault>
+    ensures answer { λ r. ⌜ r ≡ slipAnswer (R·Questions .meaning (now (robot .entry))) p ⌝ }
+    ensures after { λ _. ⌜ R·Questions .meaning (now (robot .exit)) ≡ lifted (R·Questions .meaning (now (robot .entry))) p ⌝ }
+{
+    match robot.lift(p) {
+        Ok(_) => Ok(Slip::new(p)),
+        Err(fault) => Err(fault),
+    }
+}
+
+/// Sets the cartridge down at `to`, which spends the slip; where that is refused the slip comes back.
+pub fn set<R: Robot>(slip: Slip, robot: &mut R, to: u16) -> Result<(), (Slip, Fault)>
+    ensures answer { λ r. ⌜ r ≡ setBySlip slip (R·Questions .meaning (now (robot .entry))) to ⌝ }
+    ensures after { λ _. ⌜ R·Questions .meaning (now (robot .exit)) ≡ setDown (R·Questions .meaning (now (robot .entry))) to ⌝ }
+{
+    match robot.set(to) {
+        Ok(_) => {
+            slip.spend();
+            Ok(())
+        }
+        Err(fault) => Err((slip, fault)),
+    }
+}
+
+/// Sets the cartridge down where it was lifted from; whoever calls shows that this cannot be refused.
+pub fn put_back<R: Robot>(slip: Slip, robot: &mut R)
+    requires { ⌜ setRefusal (R·Questions .meaning (now robot)) (slip .from) ≡ None ⌝ }
+    ensures { λ _. ⌜ R·Questions .meaning (now (robot .exit)) ≡ withHeld (R·Questions .meaning (now (robot .entry))) (slip .from) (R·Questions .meaning (now (robot .entry)) .hand) 0 ⌝ }
+{
+    let _ = robot.set(slip.spend());
+}
