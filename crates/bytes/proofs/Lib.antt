@@ -1,0 +1,4 @@
+pub mod Cuts
+pub mod Overs
+pub mod Back
+pub mod Forth

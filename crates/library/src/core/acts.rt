@@ -1,0 +1,69 @@
+ghost use Rattle.library.specs.Cores.{Live};
+ghost use mathlib.Core.Path.{_≡_};
+use super::Core;
+use crate::asking::Numbered;
+use crate::asking::NumberedTest;
+use crate::drive::DriveState;
+use crate::message::Message;
+use crate::message::Notice;
+use crate::state::State;
+use requests::Request;
+use ring::Ring;
+use robots::robot::Robot;
+use stock::stock::Stock;
+
+/// How many slots the waiting requests use at most, and how many the messages.
+const REQUEST_SLOTS: usize = 64;
+
+const MESSAGE_SLOTS: usize = 32;
+
+impl<'a, R: Robot> Core<'a, R> {
+    /// A new library: idle, with all drives online.
+    pub fn new(
+        stock: Stock<R>,
+        waiting: &'a mut [Request],
+        messages: &'a mut [Message],
+    ) -> Core<'a, R>
+        ensures { λ r. ⌜ Live r ⌝ }
+    {
+        let waiting = Ring::new(waiting, REQUEST_SLOTS);
+        let messages = Ring::new(messages, MESSAGE_SLOTS);
+        Core {
+            stock,
+            waiting,
+            messages,
+            state: State::Idle,
+            dropped: 0,
+            drives: [DriveState::Online; 256],
+            work: None,
+        }
+    }
+
+    /// Posts a message to the operator; where the queue is full it is dropped and counted.
+    pub fn post(&mut self, notice: Notice, number: u16)
+        requires { ⌜ Live (now self) ⌝ }
+        ensures { λ _. ⌜ Live (now (self .exit)) ⌝ }
+    {
+        if self.messages
+            .push(Message {
+                kind: notice.number(),
+                number,
+            })
+            .is_err() {
+            self.dropped = self.dropped.saturating_add(1);
+        }
+    }
+
+    /// Whether a request with this number is waiting or at work.
+    pub fn in_use(&self, number: u16) -> bool
+        requires { ⌜ Live (now self) ⌝ }
+    {
+        match self.work {
+            Some(work) => if work.request.number == number {
+                return true;
+            },
+            None => {}
+        }
+        self.waiting.any(&Numbered(number))
+    }
+}

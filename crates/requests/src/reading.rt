@@ -1,0 +1,35 @@
+ghost use Rattle.requests.specs.Reading.{judged, refused, requestIn};
+ghost use mathlib.Core.Path.{_≡_};
+use crate::bodies::Request;
+use crate::checking::check_fields;
+use crate::refusals::BadPacket;
+use crate::refusals::Cause;
+use crate::taking::Ending;
+use crate::taking::Taken;
+use crate::taking::take_fields;
+
+/// The request of a packet taken apart, or the cause of its refusal.
+fn judge(taken: Taken) -> Result<Request, Cause>
+    ensures { λ r. ⌜ r ≡ judged taken ⌝ }
+{
+    match taken.ending {
+        Ending::Short => Err(Cause::Short),
+        Ending::Long => Err(Cause::Long),
+        Ending::Exact => check_fields(taken.fields),
+    }
+}
+
+/// Reads a packet as a request, or says why it is none.
+pub fn read(packet: &[u8]) -> Result<Request, BadPacket>
+    ensures { λ r. ⌜ r ≡ requestIn (now (packet .entry)) ⌝ }
+{
+    let taken = take_fields(packet);
+    match judge(taken) {
+        Ok(request) => Ok(request),
+        Err(cause) => Err(BadPacket {
+            cause,
+            number: taken.fields.number,
+            command: taken.fields.command,
+        }),
+    }
+}

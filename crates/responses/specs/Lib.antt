@@ -1,0 +1,4 @@
+pub mod Responses
+pub mod Entries
+pub mod Inventories
+pub mod Writing

@@ -1,0 +1,63 @@
+//! An inventory: a map of 32 bytes with a bit for each place, then six bytes for each place whose
+//! bit stands.
+
+ghost use Prim.Native.Nat.{ℕ, _*_, _+_, _≤_};
+ghost use Rattle.bytes.specs.Putting.{Wrote};
+ghost use Rattle.responses.specs.Inventories.{inventoryBytes, labelBytes, labelsBytes, mapBytes};
+ghost use Rattle.responses.specs.Responses.{countOf, listed};
+ghost use lib.ListN.{length};
+ghost use mathlib.Core.Path.{_≡_};
+use bytes::put;
+use labels::six_for;
+
+/// The bits of the places that hold a cartridge, place 0 the lowest bit of the first byte.
+fn inventory_map(inventory: &[u32]) -> [u8; 32]
+    requires { ⌜ length (now inventory) ≤ 256 ⌝ }
+    ensures { λ r. ⌜ r ≡ mapBytes 32 (now (inventory .entry)) ⌝ }
+{
+    let mut map = [0u8; 32];
+    for (place, number) in inventory.iter().enumerate() {
+        if *number != 0 {
+            map[place / 8] |= 1 << (place % 8);
+        }
+    }
+    map
+}
+
+/// What stands for the cartridge at a place, nothing where there is none.
+fn put_label(buffer: &mut [u8], at: usize, number: u32) -> usize
+    requires { ⌜ at + 6 ≤ length (now buffer) ⌝ }
+    ensures wrote { λ r. ⌜ Wrote at (labelBytes number) (now (buffer .entry)) (now (buffer .exit)) r ⌝ }
+    ensures bound { λ r. ⌜ r ≤ at + 6 ⌝ }
+{
+    if number == 0 {
+        at
+    } else {
+        put(buffer, at, &six_for(number))
+    }
+}
+
+fn put_labels(buffer: &mut [u8], at: usize, inventory: &[u32]) -> usize
+    requires { ⌜ at + 6 * length (now inventory) ≤ length (now buffer) ⌝ }
+    ensures wrote { λ r. ⌜ Wrote at (labelsBytes (now (inventory .entry))) (now (buffer .entry)) (now (buffer .exit)) r ⌝ }
+    ensures bound { λ r. ⌜ r ≤ at + 6 * length (now (inventory .entry)) ⌝ }
+{
+    let mut at = at;
+    for n in inventory {
+        at = put_label(buffer, at, *n);
+    }
+    at
+}
+
+pub(crate) fn put_inventory(buffer: &mut [u8], at: usize, inventory: Option<&[u32]>) -> usize
+    requires room { ⌜ at + 32 + 6 * countOf (listed inventory) ≤ length (now buffer) ⌝ }
+    requires count { ⌜ countOf (listed inventory) ≤ 256 ⌝ }
+    ensures wrote { λ r. ⌜ Wrote at (inventoryBytes (listed (inventory .entry))) (now (buffer .entry)) (now (buffer .exit)) r ⌝ }
+    ensures bound { λ r. ⌜ r ≤ at + 32 + 6 * countOf (listed (inventory .entry)) ⌝ }
+{
+    let Some(inventory) = inventory else {
+        return at;
+    };
+    let at = put(buffer, at, &inventory_map(inventory));
+    put_labels(buffer, at, inventory)
+}
