@@ -1,3 +1,4 @@
 pub mod States
 pub mod Entering
+pub mod Replies
 pub mod Cores

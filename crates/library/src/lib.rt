@@ -6,4 +6,5 @@ pub mod drive;
 pub mod entries;
 pub mod message;
 pub mod reply;
+pub mod slots;
 pub mod state;

@@ -34,8 +34,3 @@ pub struct Message {
     pub kind: u8,
     pub number: u16,
 }
-
-impl Message {
-    /// What a slot may hold before it is used.
-    pub const BLANK: Message = Message { kind: 0, number: 0 };
-}

@@ -1,3 +1,4 @@
+ghost use Rattle.library.specs.Replies.{finalOf, grantedFinal, movedFinal, refusedFinal, tailOf, toldFinal};
 ghost use mathlib.Core.Path.{_≡_};
 use crate::entries::Entries;
 use requests::Request;
@@ -25,7 +26,9 @@ pub struct Reply {
 }
 
 /// The final of a request that succeeded.
-pub fn granted(request: Request, tail: Tail) -> Reply {
+pub fn granted(request: Request, tail: Tail) -> Reply
+    ensures { λ r. ⌜ finalOf r ≡ grantedFinal request (tailOf tail) ⌝ }
+{
     Reply {
         number: request.number,
         command: request.body.command().code(),
@@ -36,7 +39,9 @@ pub fn granted(request: Request, tail: Tail) -> Reply {
 }
 
 /// The final of a request that succeeded, with a detail.
-pub fn granted_with(request: Request, detail: u8) -> Reply {
+pub fn granted_with(request: Request, detail: u8) -> Reply
+    ensures { λ r. ⌜ finalOf r ≡ toldFinal request detail ⌝ }
+{
     Reply {
         number: request.number,
         command: request.body.command().code(),
@@ -47,7 +52,9 @@ pub fn granted_with(request: Request, detail: u8) -> Reply {
 }
 
 /// The final of a request that was refused.
-pub fn refused(request: Request, status: Status, detail: Option<u8>) -> Reply {
+pub fn refused(request: Request, status: Status, detail: Option<u8>) -> Reply
+    ensures { λ r. ⌜ finalOf r ≡ refusedFinal request status detail ⌝ }
+{
     Reply {
         number: request.number,
         command: request.body.command().code(),
@@ -58,7 +65,9 @@ pub fn refused(request: Request, status: Status, detail: Option<u8>) -> Reply {
 }
 
 /// The final of a request that moved one cartridge, or did not.
-pub fn moved(request: Request, result: Result<Entry, Refusal>) -> Reply {
+pub fn moved(request: Request, result: Result<Entry, Refusal>) -> Reply
+    ensures { λ r. ⌜ finalOf r ≡ movedFinal request result ⌝ }
+{
     match result {
         Ok(entry) => granted(request, Tail::One(entry)),
         Err(why) => refused(request, why.status(), why.detail()),

@@ -6,16 +6,13 @@ use crate::asking::NumberedTest;
 use crate::drive::DriveState;
 use crate::message::Message;
 use crate::message::Notice;
+use crate::slots::MESSAGE_SLOTS;
+use crate::slots::REQUEST_SLOTS;
 use crate::state::State;
 use requests::Request;
 use ring::Ring;
 use robots::robot::Robot;
 use stock::stock::Stock;
-
-/// How many slots the waiting requests use at most, and how many the messages.
-const REQUEST_SLOTS: usize = 64;
-
-const MESSAGE_SLOTS: usize = 32;
 
 impl<'a, R: Robot> Core<'a, R> {
     /// A new library: idle, with all drives online.

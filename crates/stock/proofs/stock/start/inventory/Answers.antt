@@ -9,9 +9,10 @@ pub loop-p-again : need.loop-p-again
 loop-p-again g c =
     let v = c .loop-p .inv in
     let t = c .loop-p-test .taken in
-    let l : c .loop-p .p < length (c .loop-p .places) = omega (arith, v .1) in
-    ( shown-more (g .Q·Questions .meaning (c .args .robot .now)) (c .loop-p .places) (c .loop-p .p) (c .shown .result) l (c .shown .ensures) (v .0)
-    , length-set (c .loop-p .places) (c .loop-p .p) (c .shown .result) ∙ v .1 )
+    let l : c .loop-p .p < length (c .loop-p .places) = omega (arith, v .1) in (
+      shown-more (g .Q·Questions .meaning (c .args .robot .now)) (c .loop-p .places) (c .loop-p .p) (c .shown .result) l (c .shown .ensures) (v .0),
+      length-set (c .loop-p .places) (c .loop-p .p) (c .shown .result) ∙ v .1,
+    )
 
 pub returns : need.returns
 returns g c =

@@ -1,0 +1,6 @@
+//! The request server: the calls of a library whose door is shut.
+
+mod hands;
+pub mod refusal;
+mod sending;
+pub mod serving;
