@@ -12,3 +12,4 @@ pub mod place;
 pub mod robot;
 pub mod search;
 mod slip;
+pub mod words;

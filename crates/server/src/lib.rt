@@ -4,3 +4,4 @@ mod hands;
 pub mod refusal;
 mod sending;
 pub mod serving;
+pub mod words;
