@@ -1,6 +1,7 @@
-ghost use Rattle.library.specs.Cores.{Live};
+ghost use Rattle.library.specs.Cores.{Live, inUse, workHas};
 ghost use mathlib.Core.Path.{_≡_};
 use super::Core;
+use super::Work;
 use crate::asking::Numbered;
 use crate::asking::NumberedTest;
 use crate::drive::DriveState;
@@ -13,6 +14,16 @@ use requests::Request;
 use ring::Ring;
 use robots::robot::Robot;
 use stock::stock::Stock;
+
+/// Whether the request at work has this number.
+fn work_has(work: Option<Work>, number: u16) -> bool
+    ensures { λ r. ⌜ r ≡ workHas work number ⌝ }
+{
+    match work {
+        Some(work) => work.request.number == number,
+        None => false,
+    }
+}
 
 impl<'a, R: Robot> Core<'a, R> {
     /// A new library: idle, with all drives online.
@@ -54,13 +65,8 @@ impl<'a, R: Robot> Core<'a, R> {
     /// Whether a request with this number is waiting or at work.
     pub fn in_use(&self, number: u16) -> bool
         requires { ⌜ Live (now self) ⌝ }
+        ensures { λ r. ⌜ r ≡ inUse (now (self .entry)) number ⌝ }
     {
-        match self.work {
-            Some(work) => if work.request.number == number {
-                return true;
-            },
-            None => {}
-        }
-        self.waiting.any(&Numbered(number))
+        work_has(self.work, number) || self.waiting.any(&Numbered(number))
     }
 }

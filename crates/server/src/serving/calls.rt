@@ -1,10 +1,9 @@
-ghost use Prim.Native.Nat.{_<_};
 ghost use Rattle.server.specs.Buffers.{Behind};
+ghost use Rattle.library.specs.Cores.{Live};
+ghost use Rattle.server.specs.Refusing.{numberRead, receiveRefusal, refusalIn, stepRefusal, used, usedBy};
 ghost use Rattle.server.specs.Hands.{entering, putAnswer, putLeft};
 ghost use Rattle.stock.specs.Models.{stockOf};
 ghost use Rattle.std.specs.Vec.{made, refused};
-ghost use Rattle.std.specs.declared.result.Result.the-variants.{Err};
-ghost use Rattle.server.specs.declared.refusal.CallRefusal.the-variants.{ShortBuffer};
 ghost use lib.ListN.{length};
 ghost use mathlib.Core.Path.{_≡_};
 use super::Serving;
@@ -30,10 +29,23 @@ use stock::stock::Stock;
 const RESPONSE_ROOM: usize = 2_048;
 
 /// The request number that could be read in a packet.
-fn number_in(read: &Result<Request, BadPacket>) -> Option<u16> {
+fn number_in(read: &Result<Request, BadPacket>) -> Option<u16>
+    ensures { λ r. ⌜ r ≡ numberRead (now (read .entry)) ⌝ }
+{
     match read {
         Ok(request) => Some(request.number),
         Err(bad) => bad.number,
+    }
+}
+
+/// Whether that number is one waiting or at work.
+fn is_used<R: Robot>(core: &Core<R>, number: Option<u16>) -> bool
+    requires { ⌜ Live (now core) ⌝ }
+    ensures { λ r. ⌜ r ≡ usedBy (now (core .entry)) number ⌝ }
+{
+    match number {
+        Some(number) => core.in_use(number),
+        None => false,
     }
 }
 
@@ -55,7 +67,7 @@ impl<'a, R: Robot + Drop> Serving<'a, R> {
 impl<'a, R: Robot> Serving<'a, R> {
     /// Receives a packet: writes one response at the front of the buffer, and tells its length.
     pub fn receive(&mut self, packet: &[u8], buffer: &mut [u8]) -> Result<usize, CallRefusal>
-        ensures short { λ r. ⌜ (length (now (buffer .entry)) < 2048 → r ≡ Err ShortBuffer) ⌝ }
+        ensures refusal { λ r. ⌜ refusalIn r ≡ receiveRefusal (length (now (buffer .entry))) (used (now (self .entry) .core) (now (packet .entry))) ⌝ }
         ensures behind { λ r. ⌜ made r (λ n. Behind (now (buffer .entry)) (now (buffer .exit)) n) ⌝ }
         ensures buffer { λ r. ⌜ refused r (λ _. now (buffer .exit) ≡ now (buffer .entry)) ⌝ }
         ensures library { λ r. ⌜ refused r (λ _. now (self .exit) .core ≡ now (self .entry) .core) ⌝ }
@@ -64,10 +76,8 @@ impl<'a, R: Robot> Serving<'a, R> {
             return Err(CallRefusal::ShortBuffer);
         }
         let request = read(packet);
-        if let Some(number) = number_in(&request) {
-            if self.core.in_use(number) {
-                return Err(CallRefusal::NumberInUse);
-            }
+        if is_used(&self.core, number_in(&request)) {
+            return Err(CallRefusal::NumberInUse);
         }
         match request {
             Err(bad) => Ok(send_bad_packet(bad, buffer)),
@@ -80,7 +90,7 @@ impl<'a, R: Robot> Serving<'a, R> {
 
     /// Goes one step on: writes the final that it ends a request with, and tells its length, or 0 where it writes nothing.
     pub fn step(&mut self, buffer: &mut [u8]) -> Result<usize, CallRefusal>
-        ensures short { λ r. ⌜ (length (now (buffer .entry)) < 2048 → r ≡ Err ShortBuffer) ⌝ }
+        ensures refusal { λ r. ⌜ refusalIn r ≡ stepRefusal (length (now (buffer .entry))) ⌝ }
         ensures behind { λ r. ⌜ made r (λ n. Behind (now (buffer .entry)) (now (buffer .exit)) n) ⌝ }
         ensures buffer { λ r. ⌜ refused r (λ _. now (buffer .exit) ≡ now (buffer .entry)) ⌝ }
         ensures library { λ r. ⌜ refused r (λ _. now (self .exit) .core ≡ now (self .entry) .core) ⌝ }
