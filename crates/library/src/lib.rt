@@ -1,6 +1,6 @@
 //! The records of a library: its state, its drives, its queues, and the request at work.
 
-pub mod asking;
+pub mod condition;
 pub mod core;
 pub mod drive;
 pub mod entries;

@@ -1,4 +1,4 @@
-//! The tests at receipt, in the order of their statuses.
+//! The checks at receipt, in the order of their statuses.
 
 ghost use Rattle.library.specs.Cores.{Live};
 ghost use Rattle.library.specs.States.{stateNumber};
@@ -84,7 +84,7 @@ fn is_served(state: State, body: Body) -> bool
     }
 }
 
-/// Tests a mount's drive.
+/// Checks a mount's drive.
 fn check_drive<R: Robot>(core: &Core<R>, drive: u8) -> Option<NotReceived>
     requires { ⌜ Live (now core) ⌝ }
 {

@@ -1,4 +1,4 @@
-//! What comes of a request that passed the tests.
+//! What comes of a request that no check refuses.
 
 ghost use Rattle.library.specs.Cores.{Live};
 use crate::checks::NotReceived;

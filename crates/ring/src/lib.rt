@@ -5,5 +5,5 @@
 mod queue;
 
 pub use queue::Change;
+pub use queue::Condition;
 pub use queue::Ring;
-pub use queue::Test;

@@ -16,12 +16,12 @@ pub struct Ring<'a, T> {
     count: usize,
 }
 
-/// A question asked of a record.
-pub trait Test<T> {
-    ghost asks: { Self → T → Bool };
+/// A condition on a record.
+pub trait Condition<T> {
+    ghost met: { Self → T → Bool };
 
-    fn test(&self, x: T) -> bool
-        ensures { λ r. ⌜ r ≡ asks (now (self .entry)) x ⌝ };
+    fn is_met(&self, x: T) -> bool
+        ensures { λ r. ⌜ r ≡ met (now (self .entry)) x ⌝ };
 }
 
 /// A change made to a record.

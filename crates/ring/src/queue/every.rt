@@ -5,18 +5,18 @@ ghost use Rattle.ring.specs.Queue.{Kept, Sound, records};
 ghost use mathlib.Core.List.{map};
 ghost use mathlib.Core.Path.{_≡_};
 use super::Change;
+use super::Condition;
 use super::Ring;
-use super::Test;
 
 impl<'a, T: Copy> Ring<'a, T> {
-    /// Whether some record passes the test.
-    pub fn any<P: Test<T>>(&self, p: &P) -> bool
+    /// Whether some record meets the condition.
+    pub fn any<P: Condition<T>>(&self, p: &P) -> bool
         requires { ⌜ Sound (now self) ⌝ }
-        ensures { λ r. ⌜ r ≡ anyOf (P·Test .asks (now (p .entry))) (records (now (self .entry))) ⌝ }
+        ensures { λ r. ⌜ r ≡ anyOf (P·Condition .met (now (p .entry))) (records (now (self .entry))) ⌝ }
     {
         for i in 0..self.count {
             if let Some(x) = self.get(i) {
-                if p.test(x) {
+                if p.is_met(x) {
                     return true;
                 }
             }

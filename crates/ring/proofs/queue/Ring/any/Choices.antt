@@ -5,4 +5,4 @@ use Rattle.ring.specs.Order.{anyOf}
 use Rattle.ring.proofs.queue.Ring.any.Given as given
 
 abbrev pub Inv-loop-i : given.InvT-loop-i
-Inv-loop-i g l = anyOf (g .P·Test .asks (l .p)) (drop (l .i) (records (l .self))) ≡ anyOf (g .P·Test .asks (l .p)) (records (l .self))
+Inv-loop-i g l = anyOf (g .P·Condition .met (l .p)) (drop (l .i) (records (l .self))) ≡ anyOf (g .P·Condition .met (l .p)) (records (l .self))
