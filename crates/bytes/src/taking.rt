@@ -1,5 +1,6 @@
 //! Fields taken off the front, each only if it is there. `None` says that the bytes end before it.
 
+ghost use Prim.Native.Nat.{_*_, _+_};
 ghost use Rattle.bytes.specs.Taking.{hasBit, oneOff, seen, sixOff, twoOff};
 ghost use mathlib.Core.Path.{_≡_};
 
@@ -23,6 +24,13 @@ pub fn take_one(there: bool, bytes: &[u8]) -> Option<(Option<u8>, &[u8])>
     Some((Some(*b), rest))
 }
 
+/// The number of two bytes.
+fn number_of(high: u8, low: u8) -> u16
+    ensures { λ r. ⌜ r ≡ high * 256 + low ⌝ }
+{
+    high as u16 * 256 + low as u16
+}
+
 /// A number of two bytes, the high one first.
 pub fn take_two(there: bool, bytes: &[u8]) -> Option<(Option<u16>, &[u8])>
     ensures { λ r. ⌜ seen r ≡ twoOff there (now (bytes .entry)) ⌝ }
@@ -33,7 +41,7 @@ pub fn take_two(there: bool, bytes: &[u8]) -> Option<(Option<u16>, &[u8])>
     let [high, low, rest @ ..] = bytes else {
         return None;
     };
-    Some((Some(*high as u16 * 256 + *low as u16), rest))
+    Some((Some(number_of(*high, *low)), rest))
 }
 
 /// Six bytes.

@@ -45,14 +45,17 @@ wrong-is cs i p = by-some cs i (firstWrong 0 cs) refl p
 pub in-range : (n : ℕ) → 1 ≤ n → n ≤ highestNumber → isLabelNumber n ≡ true
 in-range n h k = grind (arith, tells)
 
+pub label-range : (n : ℕ) → isLabelNumber n ≡ true → (1 ≤ n) × (n ≤ highestNumber)
+label-range n h = (grind (arith, tells), grind (arith, tells))
+
 pub out-of-range : (n : ℕ) → (n < 1) ⊎ ((1 ≤ n) × (highestNumber < n)) → isLabelNumber n ≡ false
 out-of-range n (inl h) = grind (arith, tells)
 out-of-range n (inr h) = grind (arith, tells)
 
 -- A label whose characters are those of the number n is the label with the number n.
-pub numbered-is : (l : Label) (n : ℕ) → 1 ≤ n → n ≤ highestNumber → l .chars ≡ labelOf n → Some l ≡ numbered n
+pub numbered-is : (l : Label) (n : ℕ) → isLabelNumber n ≡ true → l .chars ≡ labelOf n → Some l ≡ numbered n
 unfolding numbered
-numbered-is l n h k p = let b = in-range n h k in let e = labelled-is l (labelOf n) p in rw (b, ← e)
+numbered-is l n b p = let e = labelled-is l (labelOf n) p in rw (b, ← e)
 
 -- A number out of range has none.
 pub numbered-none : (n : ℕ) → isLabelNumber n ≡ false → None ≡ numbered n

@@ -17,28 +17,31 @@ use Rattle.std.specs.declared.option.Option.the-variants.{Some, None}
 use Rattle.labels.specs.declared.Label.{Label}
 use Rattle.labels.specs.Characters.{firstWrong}
 use Rattle.labels.specs.Numbers.{numberOf, labelOf, highestNumber, unreadableNumber}
-use Rattle.labels.specs.Labels.{isLabelNumber, isCartridgeNumber, questionMarks, sixFor, numberBy, numberOfSix}
-use Rattle.labels.proofs.Wrongs.{some-none, true-false}
-use Rattle.labels.proofs.Same.{in-range, out-of-range}
+use Rattle.labels.specs.Labels.{isLabelNumber, isCartridgeNumber, questionMarks, charactersOrMarks, sixFor, numberBy, numberOfSix}
+use Rattle.labels.proofs.Wrongs.{some-none, all-right}
+use Rattle.labels.proofs.Same.{in-range, label-range, out-of-range, numbered-is, numbered-none}
 use Rattle.labels.proofs.Digits.{number-back, characters-right, Counted, counted}
-
-by-length : (b : Bool) (n : ℕ) → length (cond b (labelOf n) questionMarks) ≡ 6
-by-length true n = refl
-by-length false n = refl
-
--- They are six.
-pub length-six : (n : ℕ) → length (sixFor n) ≡ 6
-unfolding sixFor
-length-six n = by-length (isLabelNumber n) n
 
 -- A label's number gives its characters, every other number question marks.
 pub six-in : (n : ℕ) → isLabelNumber n ≡ true → labelOf n ≡ sixFor n
 unfolding sixFor
-six-in n b = rw b
+six-in n b =
+    let r = label-range n b in
+    let s : n - 1 < highestNumber = omega (arith, r .0, r .1) in
+    let l : Label = record { chars = labelOf n; right = all-right (labelOf n) (characters-right (n - 1) s) } in
+    ap charactersOrMarks (numbered-is l n b refl)
 
 pub six-out : (n : ℕ) → isLabelNumber n ≡ false → questionMarks ≡ sixFor n
 unfolding sixFor
-six-out n b = rw b
+six-out n b = ap charactersOrMarks (numbered-none n b)
+
+-- They are six.
+pub length-six : (n : ℕ) → length (sixFor n) ≡ 6
+length-six n = go (isLabelNumber n) refl
+  where
+    go : (b : Bool) → isLabelNumber n ≡ b → length (sixFor n) ≡ 6
+    go true e = ap (λ (l : List ℕ). length l) (sym (six-in n e))
+    go false e = ap (λ (l : List ℕ). length l) (sym (six-out n e))
 
 -- Right characters stand for the label's number.
 pub right-number : (l : List ℕ) (n : ℕ) → firstWrong 0 l ≡ None → n ≡ numberOf l → Some n ≡ numberOfSix l

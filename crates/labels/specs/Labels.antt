@@ -40,9 +40,14 @@ numbered n = cond (isLabelNumber n) (labelIn (labelled (labelOf n))) None
 abbrev pub questionMarks : List ℕ
 questionMarks = 63 ∷ 63 ∷ 63 ∷ 63 ∷ 63 ∷ 63 ∷ []
 
--- The six bytes that stand for the cartridge with the number n: its label, or question marks.
+-- The characters of a label, question marks where there is none.
+abbrev pub charactersOrMarks : Option Label → List ℕ
+charactersOrMarks None = questionMarks
+charactersOrMarks (Some l) = l .chars
+
+-- The six bytes that stand for the cartridge with the number n.
 unfoldable pub sixFor : ℕ → List ℕ
-sixFor n = cond (isLabelNumber n) (labelOf n) questionMarks
+sixFor n = charactersOrMarks (numbered n)
 
 -- The number of the cartridge that six bytes stand for: a label's own, or that of an unreadable one for question marks.
 abbrev pub numberBy : Option ℕ → List ℕ → Option ℕ

@@ -37,6 +37,13 @@ fn character(d: u32) -> u8
     }
 }
 
+/// Whether a label has the number.
+fn is_label_number(n: u32) -> bool
+    ensures { λ r. ⌜ r ≡ isLabelNumber n ⌝ }
+{
+    n >= 1 && n <= HIGHEST_NUMBER
+}
+
 impl Label {
     /// The label's cartridge number, from which `of_number` makes the label again.
     pub fn number(&self) -> u32
@@ -58,7 +65,7 @@ impl Label {
         ensures is { λ r. ⌜ r ≡ numbered n ⌝ }
         ensures back { λ r. ⌜ Cases r (isLabelNumber n ≡ false) (λ l. numberOf (l .chars) ≡ n) ⌝ }
     {
-        if n < 1 || n > HIGHEST_NUMBER {
+        if !is_label_number(n) {
             return None;
         }
         let k = n - 1;

@@ -1,6 +1,6 @@
 //! The six bytes that stand for a cartridge in responses: its label, or six question marks.
 
-ghost use Rattle.labels.specs.Labels.{isCartridgeNumber, numberOfSix, sixFor};
+ghost use Rattle.labels.specs.Labels.{charactersOrMarks, isCartridgeNumber, numberOfSix, sixFor};
 ghost use Rattle.std.specs.Options.{Cases};
 ghost use Rattle.std.specs.declared.option.Option.the-variants.{Some};
 ghost use mathlib.Core.Bool.{true};
@@ -9,15 +9,22 @@ use crate::Label;
 use crate::UNREADABLE;
 use crate::UNREADABLE_NUMBER;
 
+/// The characters of a label, question marks where there is none.
+fn characters_of(label: Option<Label>) -> [u8; 6]
+    ensures { λ r. ⌜ r ≡ charactersOrMarks label ⌝ }
+{
+    match label {
+        Some(label) => label.chars(),
+        None => UNREADABLE,
+    }
+}
+
 /// The six bytes that stand for the cartridge with this number.
 pub fn six_for(number: u32) -> [u8; 6]
     ensures is { λ r. ⌜ r ≡ sixFor number ⌝ }
     ensures back { λ r. ⌜ (isCartridgeNumber number ≡ true → numberOfSix r ≡ Some number) ⌝ }
 {
-    match Label::of_number(number) {
-        Some(label) => label.chars(),
-        None => UNREADABLE,
-    }
+    characters_of(Label::of_number(number))
 }
 
 /// The cartridge number that six bytes stand for, if they stand for a cartridge.

@@ -1,2 +1,5 @@
-pub mod Steps
 pub mod Passed
+pub mod Sent
+pub mod Back
+pub mod Forth
+pub mod Lengths

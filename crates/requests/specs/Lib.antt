@@ -4,3 +4,8 @@ pub mod Refusals
 pub mod Taking
 pub mod Checking
 pub mod Reading
+pub mod Values
+pub mod Writing
+pub mod RoundTrips
+pub mod Lengths
+pub mod Examples

@@ -27,10 +27,13 @@ judged t = judgedBy (t .ending) (t .fields)
 abbrev pub refused : Fields → Cause → BadPacket
 refused f e = record { cause = e; number = f .number; command = f .command }
 
-abbrev pub answered : Fields → Result Request Cause → Result Request BadPacket
-answered f (Ok r) = Ok r
-answered f (Err e) = Err (refused f e)
+abbrev pub answeredBy : Fields → Result Request Cause → Result Request BadPacket
+answeredBy f (Ok r) = Ok r
+answeredBy f (Err e) = Err (refused f e)
+
+abbrev pub answered : Taken → Result Request BadPacket
+answered t = answeredBy (t .fields) (judged t)
 
 -- The request in a packet, or its refusal.
 abbrev pub requestIn : List ℕ → Result Request BadPacket
-requestIn p = answered (taken p .fields) (judged (taken p))
+requestIn p = answered (taken p)

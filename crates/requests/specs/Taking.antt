@@ -13,46 +13,75 @@ use Rattle.requests.specs.declared.taking.Ending.the-variants.{Short, Exact, L
 abbrev pub held : ℕ → Option ℕ → Option ℕ → Option ℕ → Option (List ℕ) → Option ℕ → Option ℕ → Option ℕ → Fields
 held m n c o l p t d = record { map = m; number = n; command = c; option = o; label = l; place = p; target = t; «drive_state» = d }
 
+-- The map alone.
+abbrev pub mapAlone : ℕ → Fields
+mapAlone m = held m None None None None None None None
+
+-- The fields with one more.
+abbrev pub withNumber : Fields → Option ℕ → Fields
+withNumber f x = held (f .map) x (f .command) (f .option) (f .label) (f .place) (f .target) (f .«drive_state»)
+
+abbrev pub withCommand : Fields → Option ℕ → Fields
+withCommand f x = held (f .map) (f .number) x (f .option) (f .label) (f .place) (f .target) (f .«drive_state»)
+
+abbrev pub withOption : Fields → Option ℕ → Fields
+withOption f x = held (f .map) (f .number) (f .command) x (f .label) (f .place) (f .target) (f .«drive_state»)
+
+abbrev pub withLabel : Fields → Option (List ℕ) → Fields
+withLabel f x = held (f .map) (f .number) (f .command) (f .option) x (f .place) (f .target) (f .«drive_state»)
+
+abbrev pub withPlace : Fields → Option ℕ → Fields
+withPlace f x = held (f .map) (f .number) (f .command) (f .option) (f .label) x (f .target) (f .«drive_state»)
+
+abbrev pub withTarget : Fields → Option ℕ → Fields
+withTarget f x = held (f .map) (f .number) (f .command) (f .option) (f .label) (f .place) x (f .«drive_state»)
+
+abbrev pub withState : Fields → Option ℕ → Fields
+withState f x = held (f .map) (f .number) (f .command) (f .option) (f .label) (f .place) (f .target) x
+
 -- The packet ends before a field: what was taken so far.
-abbrev pub short : Fields → Taken
-short f = record { fields = f; ending = Short }
+abbrev pub shortOf : Fields → Taken
+shortOf f = record { fields = f; ending = Short }
+
+-- The bytes left behind the last field.
+abbrev pub endingOf : List ℕ → Ending
+endingOf [] = Exact
+endingOf (b ∷ bs) = Long
 
 -- What comes of a packet with the field that was cut off and the bytes behind it, or without it.
 abbrev pub next : {X : Type 0} → Option (X × List ℕ) → Fields → (X → List ℕ → Taken) → Taken
-next None f on = short f
+next None f on = shortOf f
 next (Some p) f on = on (p .0) (p .1)
 
--- The bytes left behind the last field.
-abbrev pub ended : List ℕ → Ending
-ended [] = Exact
-ended (b ∷ bs) = Long
+-- What is taken from a field on, behind the fields f. Bit 6, the drive state, is the last.
+abbrev pub fromState : Fields → List ℕ → Taken
+fromState f bs = next (oneOff (hasBit (f .map) 64) bs) f (λ d rest. record { fields = withState f d; ending = endingOf rest })
 
--- Behind the map m, and the fields n, c, o, l, p, t, d, come the bytes bs. What is taken from each field on:
-abbrev pub fromEnd : ℕ → Option ℕ → Option ℕ → Option ℕ → Option (List ℕ) → Option ℕ → Option ℕ → Option ℕ → List ℕ → Taken
-fromEnd m n c o l p t d bs = record { fields = held m n c o l p t d; ending = ended bs }
+-- Bit 5, the target request number.
+abbrev pub fromTarget : Fields → List ℕ → Taken
+fromTarget f bs = next (twoOff (hasBit (f .map) 32) bs) f (λ t. fromState (withTarget f t))
 
-abbrev pub fromState : ℕ → Option ℕ → Option ℕ → Option ℕ → Option (List ℕ) → Option ℕ → Option ℕ → List ℕ → Taken
-fromState m n c o l p t bs = next (oneOff (hasBit m 64) bs) (held m n c o l p t None) (fromEnd m n c o l p t)
+-- Bit 4, the place.
+abbrev pub fromPlace : Fields → List ℕ → Taken
+fromPlace f bs = next (oneOff (hasBit (f .map) 16) bs) f (λ p. fromTarget (withPlace f p))
 
-abbrev pub fromTarget : ℕ → Option ℕ → Option ℕ → Option ℕ → Option (List ℕ) → Option ℕ → List ℕ → Taken
-fromTarget m n c o l p bs = next (twoOff (hasBit m 32) bs) (held m n c o l p None None) (fromState m n c o l p)
+-- Bit 3, the label.
+abbrev pub fromLabel : Fields → List ℕ → Taken
+fromLabel f bs = next (sixOff (hasBit (f .map) 8) bs) f (λ l. fromPlace (withLabel f l))
 
-abbrev pub fromPlace : ℕ → Option ℕ → Option ℕ → Option ℕ → Option (List ℕ) → List ℕ → Taken
-fromPlace m n c o l bs = next (oneOff (hasBit m 16) bs) (held m n c o l None None None) (fromTarget m n c o l)
+-- Bit 2, the option.
+abbrev pub fromOption : Fields → List ℕ → Taken
+fromOption f bs = next (oneOff (hasBit (f .map) 4) bs) f (λ o. fromLabel (withOption f o))
 
-abbrev pub fromLabel : ℕ → Option ℕ → Option ℕ → Option ℕ → List ℕ → Taken
-fromLabel m n c o bs = next (sixOff (hasBit m 8) bs) (held m n c o None None None None) (fromPlace m n c o)
+-- Bit 1, the command.
+abbrev pub fromCommand : Fields → List ℕ → Taken
+fromCommand f bs = next (oneOff (hasBit (f .map) 2) bs) f (λ c. fromOption (withCommand f c))
 
-abbrev pub fromOption : ℕ → Option ℕ → Option ℕ → List ℕ → Taken
-fromOption m n c bs = next (oneOff (hasBit m 4) bs) (held m n c None None None None None) (fromLabel m n c)
-
-abbrev pub fromCommand : ℕ → Option ℕ → List ℕ → Taken
-fromCommand m n bs = next (oneOff (hasBit m 2) bs) (held m n None None None None None None) (fromOption m n)
-
-abbrev pub fromNumber : ℕ → List ℕ → Taken
-fromNumber m bs = next (twoOff (hasBit m 1) bs) (held m None None None None None None None) (fromCommand m)
+-- Bit 0, the request number.
+abbrev pub fromNumber : Fields → List ℕ → Taken
+fromNumber f bs = next (twoOff (hasBit (f .map) 1) bs) f (λ n. fromCommand (withNumber f n))
 
 -- The map byte comes first.
 abbrev pub taken : List ℕ → Taken
-taken [] = short (held 0 None None None None None None None)
-taken (m ∷ bs) = fromNumber m bs
+taken [] = shortOf (mapAlone 0)
+taken (m ∷ bs) = fromNumber (mapAlone m) bs

@@ -1,4 +1,7 @@
-ghost use Rattle.requests.specs.Reading.{judged, refused, requestIn};
+ghost use Rattle.requests.specs.Lengths.{LengthTold};
+ghost use Rattle.requests.specs.Reading.{answered, judged, requestIn};
+ghost use Rattle.requests.specs.RoundTrips.{WritesBack};
+ghost use Rattle.std.specs.Vec.{made};
 ghost use mathlib.Core.Path.{_≡_};
 use crate::bodies::Request;
 use crate::checking::check_fields;
@@ -19,11 +22,10 @@ fn judge(taken: Taken) -> Result<Request, Cause>
     }
 }
 
-/// Reads a packet as a request, or says why it is none.
-pub fn read(packet: &[u8]) -> Result<Request, BadPacket>
-    ensures { λ r. ⌜ r ≡ requestIn (now (packet .entry)) ⌝ }
+/// The answer to a packet taken apart. A refusal tells what could be read.
+fn answer(taken: Taken) -> Result<Request, BadPacket>
+    ensures { λ r. ⌜ r ≡ answered taken ⌝ }
 {
-    let taken = take_fields(packet);
     match judge(taken) {
         Ok(request) => Ok(request),
         Err(cause) => Err(BadPacket {
@@ -32,4 +34,13 @@ pub fn read(packet: &[u8]) -> Result<Request, BadPacket>
             command: taken.fields.command,
         }),
     }
+}
+
+/// Reads a packet as a request, or says why it is none.
+pub fn read(packet: &[u8]) -> Result<Request, BadPacket>
+    ensures answer { λ r. ⌜ r ≡ requestIn (now (packet .entry)) ⌝ }
+    ensures writes { λ r. ⌜ made r (λ q. WritesBack q (now (packet .entry))) ⌝ }
+    ensures lengths { λ r. ⌜ LengthTold (now (packet .entry)) r ⌝ }
+{
+    answer(take_fields(packet))
 }

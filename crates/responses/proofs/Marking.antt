@@ -93,20 +93,9 @@ pub one-less : (xs : List ℕ) (i : ℕ) (d : ℕ) → i < length xs → getD xs
 one-less xs i d h z =
     sym (ap (λ (ys : List ℕ). mapBytes 32 ys) (take-more xs i d h ∙ ap (λ (x : ℕ). take i xs ++ (x ∷ [])) z) ∙ skipped 32 (take i xs))
 
-pub shifted : (r : ℕ) → r < 8 → 1 * 2 ^ r % 256 ≡ 2 ^ r
-shifted zero h = refl
-shifted (suc zero) h = refl
-shifted (suc (suc zero)) h = refl
-shifted (suc (suc (suc zero))) h = refl
-shifted (suc (suc (suc (suc zero)))) h = refl
-shifted (suc (suc (suc (suc (suc zero))))) h = refl
-shifted (suc (suc (suc (suc (suc (suc zero)))))) h = refl
-shifted (suc (suc (suc (suc (suc (suc (suc zero))))))) h = refl
-shifted (suc (suc (suc (suc (suc (suc (suc (suc r)))))))) h = absurd (omega arith)
-
-pub marked : (xs map : List ℕ) (i : ℕ) (d : ℕ) → i < length xs → length xs ≤ 256 → (getD xs i d ≡ 0 → ⊥) → map ≡ mapBytes 32 (take i xs)
-    → set map (i / 8) (bitOr (getD map (i / 8) 0) (1 * 2 ^ (i % 8) % 256)) ≡ mapBytes 32 (take (i + 1) xs)
-marked xs map i d h m z e = rw (shifted (i % 8) (omega arith), e) (one-more xs i d h m z)
+pub marked : (xs map : List ℕ) (i d b : ℕ) → i < length xs → length xs ≤ 256 → (getD xs i d ≡ 0 → ⊥) → map ≡ mapBytes 32 (take i xs) → b ≡ 2 ^ (i % 8)
+    → set map (i / 8) (bitOr (getD map (i / 8) 0) b) ≡ mapBytes 32 (take (i + 1) xs)
+marked xs map i d b h m z e f = rw (f, e) (one-more xs i d h m z)
 
 pub length-map-bytes : (k : ℕ) (xs : List ℕ) → length (mapBytes k xs) ≡ k
 unfolding mapBytes

@@ -8,9 +8,13 @@ use Rattle.labels.specs.Labels.{sixFor}
 use Rattle.statuses.specs.Statuses.{statusNumber}
 use Rattle.responses.specs.declared.Entry.{Entry}
 
--- The cartridge's label or question marks, from-place, to-place and status: nine bytes.
+-- From-place, to-place and status.
+abbrev pub behindLabel : Entry → List ℕ
+behindLabel e = e .from ∷ e .to ∷ statusNumber (e .status) ∷ []
+
+-- The cartridge's label or question marks come before them: nine bytes.
 abbrev pub entryBytes : Entry → List ℕ
-entryBytes e = sixFor (e .cartridge) ++ (e .from ∷ e .to ∷ statusNumber (e .status) ∷ [])
+entryBytes e = sixFor (e .cartridge) ++ behindLabel e
 
 abbrev pub eachBytes : List Entry → List ℕ
 eachBytes [] = []

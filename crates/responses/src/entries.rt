@@ -2,13 +2,20 @@
 
 ghost use Prim.Native.Nat.{ℕ, _*_, _+_, _≤_};
 ghost use Rattle.bytes.specs.Putting.{Wrote};
-ghost use Rattle.responses.specs.Entries.{eachBytes, entriesBytes, entryBytes};
+ghost use Rattle.responses.specs.Entries.{behindLabel, eachBytes, entriesBytes, entryBytes};
 ghost use Rattle.responses.specs.Responses.{countOf, listed};
 ghost use lib.ListN.{length};
 ghost use mathlib.Core.Path.{_≡_};
 use crate::Entry;
 use bytes::put;
 use labels::six_for;
+
+/// What stands behind the label: the places and the status.
+fn behind_label(e: Entry) -> [u8; 3]
+    ensures { λ r. ⌜ r ≡ behindLabel e ⌝ }
+{
+    [e.from, e.to, e.status.code()]
+}
 
 /// The cartridge's label, the places and the status.
 fn put_entry(buffer: &mut [u8], at: usize, e: Entry) -> usize
@@ -17,7 +24,7 @@ fn put_entry(buffer: &mut [u8], at: usize, e: Entry) -> usize
     ensures size { λ r. ⌜ r ≡ at + 9 ⌝ }
 {
     let at = put(buffer, at, &six_for(e.cartridge));
-    put(buffer, at, &[e.from, e.to, e.status.code()])
+    put(buffer, at, &behind_label(e))
 }
 
 fn put_each(buffer: &mut [u8], at: usize, entries: &[Entry]) -> usize

@@ -1,7 +1,7 @@
 //! An inventory: a map of 32 bytes with a bit for each place, then six bytes for each place whose
 //! bit stands.
 
-ghost use Prim.Native.Nat.{ℕ, _*_, _+_, _≤_};
+ghost use Prim.Native.Nat.{ℕ, _%_, _*_, _+_, _^_, _≤_};
 ghost use Rattle.bytes.specs.Putting.{Wrote};
 ghost use Rattle.responses.specs.Inventories.{inventoryBytes, labelBytes, labelsBytes, mapBytes};
 ghost use Rattle.responses.specs.Responses.{countOf, listed};
@@ -9,6 +9,13 @@ ghost use lib.ListN.{length};
 ghost use mathlib.Core.Path.{_≡_};
 use bytes::put;
 use labels::six_for;
+
+/// What the place's bit is worth in its map byte.
+fn bit_of(place: usize) -> u8
+    ensures { λ r. ⌜ r ≡ 2 ^ (place % 8) ⌝ }
+{
+    1 << (place % 8)
+}
 
 /// The bits of the places that hold a cartridge, place 0 the lowest bit of the first byte.
 fn inventory_map(inventory: &[u32]) -> [u8; 32]
@@ -18,7 +25,7 @@ fn inventory_map(inventory: &[u32]) -> [u8; 32]
     let mut map = [0u8; 32];
     for (place, number) in inventory.iter().enumerate() {
         if *number != 0 {
-            map[place / 8] |= 1 << (place % 8);
+            map[place / 8] |= bit_of(place);
         }
     }
     map

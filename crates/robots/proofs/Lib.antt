@@ -2,3 +2,4 @@ pub mod Acts
 pub mod Places
 pub mod Moving
 pub mod Makings
+pub mod Conserving

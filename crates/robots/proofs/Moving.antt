@@ -1,18 +1,27 @@
 -- The movement of a cartridge, way by way.
 use mathlib.Core.Path.{_≡_, refl, sym, ap, _∙_}
-use Prim.Native.Nat.{ℕ}
+use mathlib.Core.List.{_++_}
+use mathlib.Core.Bool.{Bool, cond}
+use Prim.Native.Nat.{ℕ, _+_}
+use native.Mathlib.Omega.{arith}
+use Rattle.std.proofs.shelf.Tests.{ne-eqb}
+use Rattle.std.proofs.shelf.Ways.{tells}
 use Rattle.std.specs.declared.option.Option.{Option}
 use Rattle.std.specs.declared.option.Option.the-variants.{Some, None}
 use Rattle.std.specs.declared.result.Result.the-variants.{Ok, Err}
 use Rattle.robots.specs.declared.fault.Fault.{Fault}
 use Rattle.robots.specs.declared.slip.token.Slip.{Slip}
+use Rattle.robots.specs.declared.slip.token.Found.{Found}
+use Rattle.robots.specs.declared.search.Wanted.the-variants.{FreeCell}
 use Rattle.robots.specs.declared.movement.Target.{Target}
 use Rattle.robots.specs.declared.movement.Stopped.the-variants.{NoTarget, Refused}
-use Rattle.robots.specs.Meaning.{Meaning, Sound}
+use Rattle.robots.specs.Meaning.{Meaning, Sound, count}
 use Rattle.robots.specs.Acts.{liftRefusal, lifted, setRefusal, setDown, withHeld}
-use Rattle.robots.specs.Slips.{slipFrom, slipAnswer, setBySlip}
-use Rattle.robots.specs.Movement.{Movement, movement, liftedFor, broughtTo, setAt, sought, stopped}
+use Rattle.robots.specs.Slips.{slipFrom, slipAnswer, setBySlip, found}
+use Rattle.robots.specs.Movement.{Movement, movement, liftedFor, broughtTo, setAt, sought, stopped, Emptying, cleared, handEmptied}
+use Rattle.robots.specs.Search.{nextFreeCell, upTo}
 use Rattle.robots.specs.Cartridges.{SameCartridges, cartridgesOf}
+use Rattle.robots.proofs.Places.{first-passes}
 use Rattle.robots.proofs.Acts.{was-granted, granted-value, slip-refused, set-same, back-fits, back-is, lift-keeps, set-keeps, lifted-length}
 
 missed : (m : Meaning) (p : ℕ) (t : Target) → liftRefusal m p ≡ None → sought t (lifted m p) p ≡ None → movement m p t ≡ stopped NoTarget m
@@ -73,3 +82,27 @@ keeps-lifted-for m p k t s None = keeps-brought m p k s (sought t (lifted m p) p
 
 pub movement-keeps : (m n : Meaning) (p : ℕ) (t : Target) → Sound m → n ≡ movement m p t .robot → SameCartridges m n
 movement-keeps m n p t s e k = ap (cartridgesOf k) e ∙ keeps-lifted-for m p k t s (liftRefusal m p)
+
+-- A cartridge that was found in the hand, and a cell that is free for it.
+found-full : (m : Meaning) (token : Found) → Some token ≡ found m → m .hand ≡ 0 → ⊥
+found-full m token e h =
+    let z : _≡_ {A = Option Found} (Some token) None = rw h at e in
+    let w : _≡_ {A = ℕ} 0 1 = cc in
+    omega arith
+
+pub free-fits : (m : Meaning) (p q : ℕ) (token : Found) → Some token ≡ found m → Some q ≡ nextFreeCell m p → setRefusal m q ≡ None
+free-fits m p q token f e =
+    let h = found-full m token f in
+    let t = first-passes FreeCell m (upTo (p + 1) (count m) ++ upTo 0 (p + 1)) q (sym e) in
+    grind (arith, tells)
+
+-- Here n is after the set.
+pub hand-emptied : (m n : Meaning) (p q : ℕ) (token : Found) → Sound m → Some token ≡ found m → Some q ≡ nextFreeCell m p → n ≡ setDown m q → (Ok tt ≡ handEmptied m p .answer) × (n ≡ handEmptied m p .robot) × SameCartridges m n
+hand-emptied m n p q token s f e d =
+    let k : handEmptied m p ≡ cleared (Some q) m =
+    ap (λ (b : Bool). cond b (record { answer = Ok tt; robot = m }) (cleared (nextFreeCell m p) m)) (ne-eqb (m .hand) 0 (found-full m token f))
+    ∙ ap (λ (o : Option ℕ). cleared o m) (sym e) in (
+      sym (ap (λ (z : Emptying). z .answer) k),
+      d ∙ sym (ap (λ (z : Emptying). z .robot) k),
+      λ k. ap (cartridgesOf k) d ∙ set-keeps m q k (s .held-length),
+    )

@@ -2,6 +2,7 @@
 use mathlib.Core.Path.{_≡_, refl, sym, ap, _∙_}
 use mathlib.Core.List.{List, [], _∷_, _++_}
 use mathlib.Core.Bool.{Bool, true, false, cond, _&&_}
+use mathlib.Core.Logic.{⊎-elim}
 use Prim.Native.Nat.{ℕ, zero, suc, _+_, _-_, _≤_, _<_}
 use native.Mathlib.Omega.{arith}
 use native.Mathlib.Nat.{zero-add, add-zero}
@@ -35,6 +36,15 @@ first-none w m a b h = ap (firstOf w m) (upTo-none a b h)
 
 pub ports-more : (m : Meaning) (a b : ℕ) → a < b → portsAmong m (upTo a b) ≡ cond (ofKind isPort m a) 1 0 + portsAmong m (upTo (a + 1) b)
 ports-more m a b h = ap (portsAmong m) (upTo-more a b h)
+
+-- What a search finds is what it looks for.
+pub first-passes : (w : Wanted) (m : Meaning) (xs : List ℕ) (i : ℕ) → firstOf w m xs ≡ Some i → passes w m i ≡ true
+first-passes w m [] i e = let z : _≡_ {A = ℕ} 0 1 = cc in absurd (omega arith)
+first-passes w m (x ∷ xs) i e =
+    ⊎-elim
+    (λ (t : passes w m x ≡ true). let h : Some x ≡ Some i = rw t at e in let k : x ≡ i = cc in rw (← k) t)
+    (λ (t : passes w m x ≡ false). first-passes w m xs i (rw t at e))
+    (cases-bool (passes w m x))
 
 -- The first in two lists of places, one behind the other.
 pub first-then : (w : Wanted) (m : Meaning) (xs ys : List ℕ) → firstOf w m xs ≡ None → firstOf w m (xs ++ ys) ≡ firstOf w m ys

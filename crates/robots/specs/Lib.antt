@@ -5,3 +5,5 @@ pub mod Slips
 pub mod Movement
 pub mod Cartridges
 pub mod Making
+pub mod Performing
+pub mod Equal

@@ -1,5 +1,7 @@
 -- Every movement of a cartridge: lift it, then set it down at its target, or put it back.
+use mathlib.Core.Bool.{cond}
 use Prim.Native.Nat.{ℕ}
+use lib.Dec.{eqb}
 use Rattle.std.specs.declared.option.Option.{Option}
 use Rattle.std.specs.declared.option.Option.the-variants.{Some, None}
 use Rattle.std.specs.declared.result.Result.{Result}
@@ -47,3 +49,17 @@ liftedFor None target m p = broughtTo (sought target (lifted m p) p) m p
 -- The movement of the cartridge at p to its target.
 abbrev pub movement : Meaning → ℕ → Target → Movement
 movement m p target = liftedFor (liftRefusal m p) target m p
+
+-- What emptying the hand answers, and the robot after it.
+pub record Emptying : Type 0 where
+  pub answer : Result (Unit {0}) Stopped
+  pub robot : Meaning
+
+-- No cell is free and the cartridge stays in the hand, or it is set down at q.
+abbrev pub cleared : Option ℕ → Meaning → Emptying
+cleared None m = record { answer = Err NoTarget; robot = m }
+cleared (Some q) m = record { answer = Ok tt; robot = setDown m q }
+
+-- A cartridge in the hand goes to the next free cell from p.
+abbrev pub handEmptied : Meaning → ℕ → Emptying
+handEmptied m p = cond (eqb (m .hand) 0) (record { answer = Ok tt; robot = m }) (cleared (nextFreeCell m p) m)

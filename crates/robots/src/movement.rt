@@ -1,7 +1,7 @@
 //! The movement of a cartridge from one place to another.
 
 ghost use Rattle.robots.specs.Cartridges.{SameCartridges};
-ghost use Rattle.robots.specs.Movement.{movement, sought};
+ghost use Rattle.robots.specs.Movement.{handEmptied, movement, sought};
 ghost use Rattle.robots.specs.declared.movement.Stopped.the-variants.{Refused};
 ghost use mathlib.Core.Path.{_≡_};
 use crate::fault::Fault;
@@ -76,4 +76,21 @@ pub fn move_cartridge<R: Robot>(robot: &mut R, from: u16, target: Target) -> Res
             Err(Stopped::Refused(fault))
         }
     }
+}
+
+/// Sets a cartridge that is in the hand down at the next free cell from p; where none is free it stays in the hand.
+pub fn empty_hand<R: Robot>(robot: &mut R, p: u16) -> Result<(), Stopped>
+    ensures answer { λ r. ⌜ r ≡ handEmptied (R·Questions .meaning (now (robot .entry))) p .answer ⌝ }
+    ensures after { λ _. ⌜ R·Questions .meaning (now (robot .exit)) ≡ handEmptied (R·Questions .meaning (now (robot .entry))) p .robot ⌝ }
+    ensures kept { λ _. ⌜ SameCartridges (R·Questions .meaning (now (robot .entry))) (R·Questions .meaning (now (robot .exit))) ⌝ }
+{
+    let Some(token) = slip::find(robot) else {
+        return Ok(());
+    };
+    let Some(to) = next_free_cell(robot, p) else {
+        slip::leave_found(token, robot, p);
+        return Err(Stopped::NoTarget);
+    };
+    slip::set_found(token, robot, to);
+    Ok(())
 }

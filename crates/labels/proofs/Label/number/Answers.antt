@@ -5,7 +5,7 @@ use borrow.Author.Needs.{needs}
 use Rattle.labels.specs.Labels.{numbered}
 use Rattle.labels.proofs.Wrongs.{none-wrong, right-at}
 use Rattle.labels.proofs.Digits.{six-value, counted}
-use Rattle.labels.proofs.Same.{numbered-is}
+use Rattle.labels.proofs.Same.{in-range, numbered-is}
 use Rattle.labels.proofs.Label.number.Needs as need
 
 pub digit-k-requires : need.digit-k-requires
@@ -32,4 +32,4 @@ returns c =
     let n = six-value (l .chars) _ _ _ _ _ _ (search needs) (c .digit-k .ensures .is) (c .digit .ensures .is) (c .digit-2 .ensures .is)
     (c .digit-3 .ensures .is) (c .digit-4 .ensures .is) (c .digit-5 .ensures .is) in
     let k = counted (l .chars) (search needs) (none-wrong (l .chars) (l .right)) in
-    record { is = n; back = ap numbered n ∙ sym (numbered-is l _ (k .low) (k .high) (sym (k .back))) }
+    record { is = n; back = ap numbered n ∙ sym (numbered-is l _ (in-range _ (k .low) (k .high)) (sym (k .back))) }

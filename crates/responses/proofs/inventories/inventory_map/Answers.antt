@@ -16,7 +16,7 @@ loop-place-holds c = (refl, refl)
 pub loop-place-again : need.loop-place-again
 loop-place-again c =
     let e : c .if-number-ne0 .map ≡ mapBytes 32 (take (c .loop-place .place + 1) (c .args .inventory .now)) = elim (c .if-number-ne0 .came) [
-      | then-number-ne0 w ↦ w .map-is ∙ marked (c .args .inventory .now) (c .loop-place .map) (c .loop-place .place) 0 (omega arith) (c .pre) (w .if-number-ne0 .taken) (c .loop-place .inv .1)
+      | then-number-ne0 w ↦ w .map-is ∙ marked (c .args .inventory .now) (c .loop-place .map) (c .loop-place .place) 0 (w .bit-of .result) (omega arith) (c .pre) (w .if-number-ne0 .taken) (c .loop-place .inv .1) (w .bit-of .ensures)
       | else-number-ne0 w ↦ w .map-is ∙ c .loop-place .inv .1 ∙ one-less (c .args .inventory .now) (c .loop-place .place) 0 (omega arith) (omega (arith, w .if-number-ne0 .left))
     ] in
     (ap (λ (l : List ℕ). length l) e ∙ length-map-bytes 32 _, e)

@@ -1,0 +1,3 @@
+pub mod Tagged
+pub mod Filling
+pub mod Fitted
