@@ -33,7 +33,7 @@ pub fn entry_for(cartridge: u32, from: u16, to: u16, status: Status) -> Entry
 }
 
 /// Why a movement to the target came to nothing.
-fn why_stopped(target: Target, why: Stopped) -> Refusal
+pub(super) fn why_stopped(target: Target, why: Stopped) -> Refusal
     ensures { λ r. ⌜ r ≡ whyStopped target why ⌝ }
 {
     match (why, target) {

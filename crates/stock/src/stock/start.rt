@@ -3,17 +3,18 @@
 ghost use Rattle.robots.specs.Meaning.{count};
 ghost use Rattle.stock.specs.Holding.{inventoryOf, readable, shownAt};
 ghost use Rattle.stock.specs.Models.{stockOf};
-ghost use Rattle.stock.specs.Starts.{begun, emptied, fit, readAt};
-ghost use lib.Dec.{eqb};
+ghost use Rattle.stock.specs.Starts.{begun, fit, handCleared, readAt};
 ghost use mathlib.Core.Path.{_≡_};
 use super::Stock;
 use crate::refusal::Refusal;
 use crate::stock::lookups::held;
+use crate::stock::movements::why_stopped;
 use labels::UNREADABLE_NUMBER;
+use robots::movement::Target;
+use robots::movement::empty_hand;
 use robots::robot::Questions;
 use robots::robot::Robot;
 use robots::search::is_port;
-use robots::search::next_free_cell;
 use robots::search::port_count;
 
 /// Whether the number is that of a label.
@@ -52,20 +53,16 @@ fn inventory<Q: Questions>(robot: &Q) -> [u32; 256]
 
 impl<R: Robot> Stock<R> {
     /// Sets what the hand holds into the next free cell from the last place.
-    fn empty_hand(&mut self) -> Result<(), Refusal>
-        ensures answer { λ r. ⌜ r ≡ emptied (eqb (stockOf (R·Questions .meaning) (now (self .entry)) .robot .hand) 0) (stockOf (R·Questions .meaning) (now (self .entry))) .answer ⌝ }
-        ensures after { λ _. ⌜ stockOf (R·Questions .meaning) (now (self .exit)) ≡ emptied (eqb (stockOf (R·Questions .meaning) (now (self .entry)) .robot .hand) 0) (stockOf (R·Questions .meaning) (now (self .entry))) .stock ⌝ }
+    fn clear_hand(&mut self) -> Result<(), Refusal>
+        ensures answer { λ r. ⌜ r ≡ handCleared (stockOf (R·Questions .meaning) (now (self .entry))) .answer ⌝ }
+        ensures after { λ _. ⌜ stockOf (R·Questions .meaning) (now (self .exit)) ≡ handCleared (stockOf (R·Questions .meaning) (now (self .entry))) .stock ⌝ }
     {
-        if self.robot.in_hand() == 0 {
-            return Ok(());
-        }
         let n = self.robot.places();
         let last = if n == 0 { 0 } else { n - 1 };
-        let Some(cell) = next_free_cell(&self.robot, last) else {
-            return Err(Refusal::NoFreeCell);
-        };
-        let _ = self.robot.set(cell);
-        Ok(())
+        match empty_hand(&mut self.robot, last) {
+            Ok(()) => Ok(()),
+            Err(why) => Err(why_stopped(Target::NextCell, why)),
+        }
     }
 
     /// The taking step of a start.
@@ -77,7 +74,7 @@ impl<R: Robot> Stock<R> {
             return Err(Refusal::BadMakeUp);
         }
         self.catalogue.clear();
-        self.empty_hand()
+        self.clear_hand()
     }
 
     /// A start reads the place p: a label in a cell or drive is filed.
