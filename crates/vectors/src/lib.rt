@@ -6,3 +6,5 @@ mod calls;
 mod label_numbers;
 #[cfg(test)]
 mod packets;
+#[cfg(test)]
+mod queues;
