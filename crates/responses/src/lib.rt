@@ -1,14 +1,18 @@
-//! Response packets: what a response tells, and how it is written into the front of a buffer.
+//! Response packets: what a response tells, how it is written into the front of a buffer, and how
+//! it is read again.
 
 ghost use Prim.Native.Nat.{ℕ};
 ghost use Rattle.responses.specs.Responses.{finalWith, held, kindNumber, refusedBy, told};
 ghost use Rattle.std.specs.declared.option.Option.the-variants.{None, Some};
 ghost use mathlib.Core.Path.{_≡_};
 
+mod cartridges;
 mod entries;
 mod inventories;
+mod reading;
 mod writing;
 
+pub use reading::read;
 use statuses::Status;
 pub use writing::Unwritable;
 

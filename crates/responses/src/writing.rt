@@ -2,9 +2,10 @@
 
 ghost use Prim.Native.Nat.{ℕ, _≤_};
 ghost use Rattle.responses.specs.Responses.{countOf, listed, told};
+ghost use Rattle.responses.specs.RoundTrips.{ReadsBack};
 ghost use Rattle.responses.specs.Writing.{answer, bytesOf, flag, layerByte, left, mapOf, unwritable};
 ghost use Rattle.std.specs.Vec.{made};
-ghost use lib.ListN.{drop, length};
+ghost use lib.ListN.{drop, length, take};
 ghost use mathlib.Core.List.{_++_};
 ghost use mathlib.Core.Path.{_≡_};
 use crate::Entry;
@@ -42,7 +43,7 @@ fn worth(there: bool, bit: u8) -> u8
 }
 
 /// The number of the layer that refuses by the status.
-fn layer_code(status: Status) -> Option<u8>
+pub(crate) fn layer_code(status: Status) -> Option<u8>
     ensures { λ r. ⌜ r ≡ layerByte status ⌝ }
 {
     match status.layer() {
@@ -121,6 +122,7 @@ impl Response<'_> {
         ensures answer { λ r. ⌜ r ≡ answer (length (now (buffer .entry))) (told (now (self .entry))) ⌝ }
         ensures after { λ _. ⌜ now (buffer .exit) ≡ left (told (now (self .entry))) (now (buffer .entry)) ⌝ }
         ensures bound { λ r. ⌜ made r (λ n. n ≤ 2048) ⌝ }
+        ensures reads { λ r. ⌜ made r (λ n. ReadsBack (told (now (self .entry))) (take n (now (buffer .exit)))) ⌝ }
     {
         match self.why_not(buffer.len()) {
             Some(cause) => Err(cause),
