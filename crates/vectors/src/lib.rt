@@ -1,6 +1,8 @@
 //! The worked examples of the rule book, executed.
 
 #[cfg(test)]
+mod acts;
+#[cfg(test)]
 mod calls;
 #[cfg(test)]
 mod label_numbers;
