@@ -1,6 +1,6 @@
--- What mount and enter do to the robot and the catalogue.
+-- What mount, dismount, eject and enter do to the robot and the catalogue.
 use mathlib.Core.List.{List}
-use mathlib.Core.Bool.{Bool, true, false}
+use mathlib.Core.Bool.{Bool, true, false, _||_}
 use Prim.Native.Nat.{ℕ}
 use lib.Dec.{eqb}
 use Rattle.labels.specs.Numbers.{unreadableNumber}
@@ -21,12 +21,13 @@ use Rattle.robots.specs.Acts.{putIn}
 use Rattle.robots.specs.Search.{isDrive, ofKind}
 use Rattle.robots.specs.Movement.{Movement, movement}
 use Rattle.stock.specs.declared.catalogue.Filed.{Filed}
+use Rattle.stock.specs.declared.catalogue.Row.{Row}
 use Rattle.stock.specs.declared.catalogue.Volume.{Volume}
 use Rattle.stock.specs.declared.catalogue.Volume.the-variants.{One, Several}
 use Rattle.stock.specs.declared.refusal.Refusal.{Refusal}
 use Rattle.stock.specs.declared.refusal.Refusal.the-variants as refusal
 use Rattle.stock.specs.Refusals.{inByte, statusOf}
-use Rattle.stock.specs.Filing.{volumeOf, refiled, filedMore}
+use Rattle.stock.specs.Filing.{volumeOf, indexOf, refiled, unfiled, filedMore}
 use Rattle.stock.specs.Holding.{heldIn}
 use Rattle.stock.specs.Models.{Stocked}
 
@@ -57,50 +58,77 @@ pub record Done : Type 0 where
 abbrev pub refused : Refusal → Stocked → Done
 refused why s = record { answer = Err why; stock = s }
 
+-- What was filed in a row follows the cartridge; what went to the port is filed no more.
+abbrev pub rowFollows : Option ℕ → Target → ℕ → List Filed → List Filed
+rowFollows None target q xs = xs
+rowFollows (Some i) (At d) q xs = refiled i q xs
+rowFollows (Some i) NextCell q xs = refiled i q xs
+rowFollows (Some i) LowestPort q xs = unfiled i xs
+
+abbrev pub followed : Option ℕ → Target → ℕ → Stocked → Stocked
+followed index target q s = record { robot = s .robot; filed = rowFollows index target q (s .filed) }
+
 -- The catalogue follows what the robot has granted.
-abbrev pub movedAs : Result Moved Stopped → Meaning → Stocked → ℕ → Target → Done
-movedAs (Ok gone) m s p target = record {
+abbrev pub movedAs : Result Moved Stopped → Meaning → Stocked → Option ℕ → ℕ → Target → Done
+movedAs (Ok gone) m s index p target = record {
   answer = Ok (entryFor (gone .cartridge) p (gone .to) status.Success);
-  stock = record { robot = m; filed = refiled p (gone .to) (s .filed) };
+  stock = followed index target (gone .to) (record { robot = m; filed = s .filed });
 }
-movedAs (Err why) m s p target = record { answer = Err (whyStopped target why); stock = record { robot = m; filed = s .filed } }
+movedAs (Err why) m s index p target = record { answer = Err (whyStopped target why); stock = record { robot = m; filed = s .filed } }
 
-abbrev pub movedBy : Movement → Stocked → ℕ → Target → Done
-movedBy x s p target = movedAs (x .answer) (x .robot) s p target
+abbrev pub movedBy : Movement → Stocked → Option ℕ → ℕ → Target → Done
+movedBy x s index p target = movedAs (x .answer) (x .robot) s index p target
 
--- The cartridge at p goes to its target among cells and drives.
-abbrev pub moved : Stocked → ℕ → Target → Done
-moved s p target = movedBy (movement (s .robot) p target) s p target
+-- The cartridge at p, filed in this row if it is filed, goes to its target.
+abbrev pub moved : Stocked → Option ℕ → ℕ → Target → Done
+moved s index p target = movedBy (movement (s .robot) p target) s index p target
 
--- The one place that a label is at: first no volume, then several.
-abbrev pub locatedBy : Option Volume → Result ℕ Refusal
+-- The one row that a label is in: first no volume, then several.
+abbrev pub locatedBy : Option Volume → Result Row Refusal
 locatedBy None = Err refusal.NoVolume
 locatedBy (Some Several) = Err refusal.SeveralVolumes
-locatedBy (Some (One p)) = Ok p
+locatedBy (Some (One r)) = Ok r
 
--- The cell that a label is in: a drive is refused.
-abbrev pub notInDrive : Bool → ℕ → Result ℕ Refusal
-notInDrive true p = Err (refusal.InDrive p)
-notInDrive false p = Ok p
+-- The row of a label in a cell: a drive is refused.
+abbrev pub notInDrive : Bool → Row → Result Row Refusal
+notInDrive true r = Err (refusal.InDrive (r .place))
+notInDrive false r = Ok r
 
-abbrev pub cellBy : Result ℕ Refusal → Meaning → Result ℕ Refusal
+abbrev pub cellBy : Result Row Refusal → Meaning → Result Row Refusal
 cellBy (Err why) m = Err why
-cellBy (Ok p) m = notInDrive (ofKind isDrive m p) p
+cellBy (Ok r) m = notInDrive (ofKind isDrive m (r .place)) r
 
-abbrev pub cellOf : Stocked → ℕ → Result ℕ Refusal
+abbrev pub cellOf : Stocked → ℕ → Result Row Refusal
 cellOf s k = cellBy (locatedBy (volumeOf (s .filed) k)) (s .robot)
 
 -- Mount: the label's cell, then an empty drive, then the movement.
-abbrev pub mountedFrom : Bool → Stocked → ℕ → ℕ → Done
-mountedFrom true s p d = moved s p (At d)
-mountedFrom false s p d = refused (refusal.DriveInUse d) s
+abbrev pub mountedFrom : Bool → Stocked → Row → ℕ → Done
+mountedFrom true s r d = moved s (Some (r .index)) (r .place) (At d)
+mountedFrom false s r d = refused (refusal.DriveInUse d) s
 
-abbrev pub mountedBy : Result ℕ Refusal → Stocked → ℕ → Done
+abbrev pub mountedBy : Result Row Refusal → Stocked → ℕ → Done
 mountedBy (Err why) s d = refused why s
-mountedBy (Ok p) s d = mountedFrom (eqb (heldIn (s .robot) d) 0) s p d
+mountedBy (Ok r) s d = mountedFrom (eqb (heldIn (s .robot) d) 0) s r d
 
 abbrev pub mounted : Stocked → ℕ → ℕ → Done
 mounted s k d = mountedBy (cellOf s k) s d
+
+-- Dismount: a full drive, then its label unless forced, then the movement to the next free cell.
+abbrev pub dismountedIf : Bool → Bool → Stocked → ℕ → Done
+dismountedIf true may s d = refused (refusal.DriveEmpty d) s
+dismountedIf false false s d = refused (refusal.OtherVolume d) s
+dismountedIf false true s d = moved s (indexOf (s .filed) d) d NextCell
+
+abbrev pub dismounted : Stocked → ℕ → Bool → ℕ → Done
+dismounted s k force d = dismountedIf (eqb (heldIn (s .robot) d) 0) (force || eqb (heldIn (s .robot) d) k) s d
+
+-- Eject: the label's cell, then the movement to the lowest free port place.
+abbrev pub ejectedBy : Result Row Refusal → Stocked → Done
+ejectedBy (Err why) s = refused why s
+ejectedBy (Ok r) s = moved s (Some (r .index)) (r .place) LowestPort
+
+abbrev pub ejected : Stocked → ℕ → Done
+ejected s k = ejectedBy (cellOf s k) s
 
 -- One port place of an enter: its entry, and what it leaves.
 pub record Entered : Type 0 where

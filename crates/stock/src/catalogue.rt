@@ -10,10 +10,17 @@ pub struct Filed {
     pub place: u16,
 }
 
-/// Where a label is filed: at one place, or at several.
+/// A row of the catalogue: where it stands, and the place that it names.
+#[derive(Clone, Copy)]
+pub struct Row {
+    pub index: usize,
+    pub place: u16,
+}
+
+/// Where a label is filed: in one row, or in several.
 #[derive(Clone, Copy)]
 pub enum Volume {
-    One(u16),
+    One(Row),
     Several,
 }
 

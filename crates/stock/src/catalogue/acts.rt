@@ -1,28 +1,30 @@
-ghost use Prim.Native.Nat.{_<_};
-ghost use Rattle.std.specs.Options.{Cases as BySome};
+ghost use Prim.Native.Nat.{_+_};
 ghost use Rattle.std.specs.Vec.{made};
 ghost use Rattle.stock.specs.Catalogues.{filedIn};
-ghost use Rattle.stock.specs.Filing.{filedMore, indexOf, refiled, seen, volumeOf};
-ghost use lib.ListN.{length};
+ghost use Rattle.stock.specs.Filing.{filedMore, indexOf, refiled, seen, unfiled, volumeOf};
 ghost use mathlib.Core.List.{[]};
 ghost use mathlib.Core.Path.{_≡_};
 use super::Catalogue;
 use super::Filed;
+use super::Row;
 use super::Volume;
 use std::alloc::AllocError;
 use std::alloc::Global;
 
-/// What is known of a label once one more row is seen.
-fn seen(number: u32, found: Option<Volume>, row: Filed) -> Option<Volume>
-    ensures { λ r. ⌜ r ≡ seen number found row ⌝ }
+/// What is known of a label once the row at `index` is seen.
+fn seen(number: u32, known: Option<Volume>, index: usize, row: Filed) -> Option<Volume>
+    ensures { λ r. ⌜ r ≡ seen number known index row ⌝ }
 {
     if row.number == number {
-        match found {
-            None => Some(Volume::One(row.place)),
+        match known {
+            None => Some(Volume::One(Row {
+                index,
+                place: row.place,
+            })),
             Some(_) => Some(Volume::Several),
         }
     } else {
-        found
+        known
     }
 }
 
@@ -30,15 +32,14 @@ fn volume_in(rows: &[Filed], number: u32) -> Option<Volume>
     ensures { λ r. ⌜ r ≡ volumeOf (now (rows .entry)) number ⌝ }
 {
     let mut found = None;
-    for row in rows {
-        found = seen(number, found, *row);
+    for i in 0..rows.len() {
+        found = seen(number, found, i, rows[i]);
     }
     found
 }
 
 fn index_in(rows: &[Filed], place: u16) -> Option<usize>
-    ensures value { λ r. ⌜ r ≡ indexOf (now (rows .entry)) place ⌝ }
-    ensures within { λ r. ⌜ BySome r (Unit {0}) (λ i. i < length (now (rows .entry))) ⌝ }
+    ensures { λ r. ⌜ r ≡ indexOf (now (rows .entry)) place ⌝ }
 {
     for i in 0..rows.len() {
         if rows[i].place == place {
@@ -64,12 +65,28 @@ impl Catalogue {
         volume_in(&self.rows, number)
     }
 
-    /// What was filed at `from` is filed at `to`.
-    pub fn refile(&mut self, from: u16, to: u16)
-        ensures { λ _. ⌜ filedIn (now (self .exit)) ≡ refiled from to (filedIn (now (self .entry))) ⌝ }
+    /// The row that names the place, if there is one.
+    pub fn row_of(&self, place: u16) -> Option<usize>
+        ensures { λ r. ⌜ r ≡ indexOf (filedIn (now (self .entry))) place ⌝ }
     {
-        if let Some(i) = index_in(&self.rows, from) {
-            self.rows[i].place = to;
+        index_in(&self.rows, place)
+    }
+
+    /// What a row has is now at `to`.
+    pub fn refile(&mut self, index: usize, to: u16)
+        ensures { λ _. ⌜ filedIn (now (self .exit)) ≡ refiled index to (filedIn (now (self .entry))) ⌝ }
+    {
+        if index < self.rows.len() {
+            self.rows[index].place = to;
+        }
+    }
+
+    /// What a row has is filed no more.
+    pub fn unfile(&mut self, index: usize)
+        ensures { λ _. ⌜ filedIn (now (self .exit)) ≡ unfiled index (filedIn (now (self .entry))) ⌝ }
+    {
+        if index < self.rows.len() {
+            let _ = self.rows.remove(index);
         }
     }
 

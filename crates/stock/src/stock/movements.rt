@@ -3,9 +3,12 @@
 ghost use Rattle.robots.specs.Movement.{movement};
 ghost use Rattle.stock.specs.Filing.{volumeOf};
 ghost use Rattle.stock.specs.Models.{stockOf};
-ghost use Rattle.stock.specs.Moves.{cellOf, entered, enteredNew, entryFor, locatedBy, moved, mounted, whyStopped};
+ghost use Rattle.stock.specs.Moves.{cellOf, dismounted, ejected, entered, enteredNew, entryFor, followed, locatedBy, mounted, moved, whyStopped};
+ghost use lib.Dec.{eqb};
+ghost use mathlib.Core.Bool.{_||_};
 ghost use mathlib.Core.Path.{_≡_};
 use super::Stock;
+use crate::catalogue::Row;
 use crate::catalogue::Volume;
 use crate::refusal::Refusal;
 use crate::refusal::RefusalFromFault;
@@ -43,42 +46,67 @@ pub(super) fn why_stopped(target: Target, why: Stopped) -> Refusal
     }
 }
 
-/// The one place that the label is at.
-pub fn located(volume: Option<Volume>) -> Result<u16, Refusal>
+/// The one row that the label is in.
+pub fn located(volume: Option<Volume>) -> Result<Row, Refusal>
     ensures { λ r. ⌜ r ≡ locatedBy volume ⌝ }
 {
     let Some(volume) = volume else {
         return Err(Refusal::NoVolume);
     };
-    let Volume::One(place) = volume else {
+    let Volume::One(row) = volume else {
         return Err(Refusal::SeveralVolumes);
     };
-    Ok(place)
+    Ok(row)
+}
+
+/// Whether the cartridge in a drive may be dismounted by this number.
+fn may_dismount(force: bool, in_drive: u32, number: u32) -> bool
+    ensures { λ r. ⌜ r ≡ (force || eqb «in_drive» number) ⌝ }
+{
+    force || in_drive == number
 }
 
 impl<R: Robot> Stock<R> {
-    /// The cell that the label with this number is in.
-    fn cell_of(&self, number: u32) -> Result<u16, Refusal>
+    /// The row of the label with this number, which must be in a cell.
+    fn cell_of(&self, number: u32) -> Result<Row, Refusal>
         ensures { λ r. ⌜ r ≡ cellOf (stockOf (R·Questions .meaning) (now (self .entry))) number ⌝ }
     {
         match located(self.catalogue.volume(number)) {
-            Ok(place) => if is_drive(&self.robot, place) {
-                Err(Refusal::InDrive(place))
-            } else {
-                Ok(place)
-            },
+            Ok(row) => {
+                if is_drive(&self.robot, row.place) {
+                    Err(Refusal::InDrive(row.place))
+                } else {
+                    Ok(row)
+                }
+            }
             Err(why) => Err(why),
         }
     }
 
-    /// Moves a cartridge between cells and drives, and then files it at its new place.
-    fn move_filed(&mut self, from: u16, target: Target) -> Result<Entry, Refusal>
-        ensures answer { λ r. ⌜ r ≡ moved (stockOf (R·Questions .meaning) (now (self .entry))) from target .answer ⌝ }
-        ensures after { λ _. ⌜ stockOf (R·Questions .meaning) (now (self .exit)) ≡ moved (stockOf (R·Questions .meaning) (now (self .entry))) from target .stock ⌝ }
+    /// What was filed in the row, if there is one, is now at `to`; what went to the port is filed no more.
+    fn follow(&mut self, index: Option<usize>, target: Target, to: u16)
+        ensures { λ _. ⌜ stockOf (R·Questions .meaning) (now (self .exit)) ≡ followed index target to (stockOf (R·Questions .meaning) (now (self .entry))) ⌝ }
+    {
+        match (index, target) {
+            (None, _) => {}
+            (Some(index), Target::LowestPort) => self.catalogue.unfile(index),
+            (Some(index), _) => self.catalogue.refile(index, to),
+        }
+    }
+
+    /// Moves a filed cartridge, and then files it at its new place.
+    fn move_filed(
+        &mut self,
+        index: Option<usize>,
+        from: u16,
+        target: Target,
+    ) -> Result<Entry, Refusal>
+        ensures answer { λ r. ⌜ r ≡ moved (stockOf (R·Questions .meaning) (now (self .entry))) index from target .answer ⌝ }
+        ensures after { λ _. ⌜ stockOf (R·Questions .meaning) (now (self .exit)) ≡ moved (stockOf (R·Questions .meaning) (now (self .entry))) index from target .stock ⌝ }
     {
         match move_cartridge(&mut self.robot, from, target) {
             Ok(gone) => {
-                self.catalogue.refile(from, gone.to);
+                self.follow(index, target, gone.to);
                 Ok(entry_for(gone.cartridge, from, gone.to, Status::Success))
             }
             Err(why) => Err(why_stopped(target, why)),
@@ -91,12 +119,39 @@ impl<R: Robot> Stock<R> {
         ensures after { λ _. ⌜ stockOf (R·Questions .meaning) (now (self .exit)) ≡ mounted (stockOf (R·Questions .meaning) (now (self .entry))) number drive .stock ⌝ }
     {
         match self.cell_of(number) {
-            Ok(place) => {
+            Ok(row) => {
                 if held(&self.robot, drive) != 0 {
                     return Err(Refusal::DriveInUse(drive));
                 }
-                self.move_filed(place, Target::At(drive))
+                self.move_filed(Some(row.index), row.place, Target::At(drive))
             }
+            Err(why) => Err(why),
+        }
+    }
+
+    /// Dismounts the drive; unforced, only the label with this number.
+    pub fn dismount(&mut self, number: u32, force: bool, drive: u16) -> Result<Entry, Refusal>
+        ensures answer { λ r. ⌜ r ≡ dismounted (stockOf (R·Questions .meaning) (now (self .entry))) number force drive .answer ⌝ }
+        ensures after { λ _. ⌜ stockOf (R·Questions .meaning) (now (self .exit)) ≡ dismounted (stockOf (R·Questions .meaning) (now (self .entry))) number force drive .stock ⌝ }
+    {
+        let in_drive = held(&self.robot, drive);
+        if in_drive == 0 {
+            return Err(Refusal::DriveEmpty(drive));
+        }
+        if !may_dismount(force, in_drive, number) {
+            return Err(Refusal::OtherVolume(drive));
+        }
+        let index = self.catalogue.row_of(drive);
+        self.move_filed(index, drive, Target::NextCell)
+    }
+
+    /// Ejects the label with this number to the port.
+    pub fn eject(&mut self, number: u32) -> Result<Entry, Refusal>
+        ensures answer { λ r. ⌜ r ≡ ejected (stockOf (R·Questions .meaning) (now (self .entry))) number .answer ⌝ }
+        ensures after { λ _. ⌜ stockOf (R·Questions .meaning) (now (self .exit)) ≡ ejected (stockOf (R·Questions .meaning) (now (self .entry))) number .stock ⌝ }
+    {
+        match self.cell_of(number) {
+            Ok(row) => self.move_filed(Some(row.index), row.place, Target::LowestPort),
             Err(why) => Err(why),
         }
     }

@@ -1,13 +1,12 @@
 use borrow.Author.Needs.{needs}
-use Rattle.std.specs.Iters.{folded}
-use Rattle.std.proofs.shelf.Lists.{at-drop-more, at-drop-all}
-use Rattle.stock.specs.Filing.{seen, noRow}
+use Rattle.stock.specs.Filing.{noRow}
+use Rattle.stock.proofs.Rows.{volume-more, volume-all}
 use Rattle.stock.proofs.catalogue.acts.volume_in.Needs as need
 
-pub loop-row-again : need.loop-row-again
-loop-row-again c =
-    let e = at-drop-more (folded (seen (c .args .number)) (c .loop-row .found)) (c .args .rows .now) (c .loop-row .row-index) noRow (c .loop-row-test .taken) in search needs
+pub loop-i-again : need.loop-i-again
+loop-i-again c =
+    let e = volume-more (c .args .rows .now) (c .loop-i .i) (c .args .number) (c .loop-i .found) noRow (c .loop-i-test .taken) in search needs
 
 pub returns : need.returns
 returns c =
-    let e = at-drop-all (folded (seen (c .args .number)) (c .loop-row .found)) (c .args .rows .now) (c .loop-row .row-index) (c .loop-row-test .left) in search needs
+    let e = volume-all (c .args .rows .now) (c .loop-i .i) (c .args .number) (c .loop-i .found) (c .loop-i-test .left) in search needs
