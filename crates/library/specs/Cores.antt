@@ -1,25 +1,39 @@
--- What holds of a library at every moment, and which request numbers are in use.
+-- The library that a core stands for.
 use mathlib.Core.Path.{_≡_}
-use mathlib.Core.Bool.{Bool, false, _||_}
-use Prim.Native.Nat.{ℕ}
-use lib.Dec.{eqb}
+use mathlib.Core.Bool.{Bool}
 use lib.ListN.{length}
 use Rattle.std.specs.declared.option.Option.{Option}
 use Rattle.std.specs.declared.option.Option.the-variants.{Some, None}
-use Rattle.ring.specs.Order.{anyOf}
 use Rattle.ring.specs.Queue.{Sound, records}
+use Rattle.robots.specs.Meaning.{Meaning}
+use Rattle.stock.specs.Models.{stockOf}
 use Rattle.library.specs.declared.core.Work.{Work}
 use Rattle.library.specs.declared.core.Core.{Core}
+use Rattle.library.specs.Entering.{entriesIn}
+use Rattle.library.specs.Library.{Job, Library}
 
--- Its queues are sound, and there is a state for each of 256 drives.
+-- What holds of it at every moment: its queues are sound, and there is a state for each of 256 drives.
 abbrev pub Live : {R : Type 0} → Core R → Type 0
 Live c = Sound (c .waiting) × Sound (c .messages) × (length (c .drives) ≡ 256)
 
--- Whether the request at work has the number n.
-abbrev pub workHas : Option Work → ℕ → Bool
-workHas None n = false
-workHas (Some w) n = eqb (w .request .number) n
+abbrev pub jobOf : Work → Job
+jobOf w = record { request = w .request; next = w .next; entries = entriesIn (w .entries) }
 
--- Whether a request with the number n is at work or waiting.
-abbrev pub inUse : {R : Type 0} → Core R → ℕ → Bool
-inUse c n = workHas (c .work) n || anyOf (λ q. eqb (q .number) n) (records (c .waiting))
+abbrev pub workOf : Option Work → Option Job
+workOf None = None
+workOf (Some w) = Some (jobOf w)
+
+-- Seen with the door open or shut.
+abbrev pub libraryOf : {R : Type 0} → (R → Meaning) → Bool → Core R → Library
+libraryOf meaning door c = record {
+  stock = stockOf meaning (c .stock);
+  state = c .state;
+  drives = c .drives;
+  work = workOf (c .work);
+  waiting = records (c .waiting);
+  slots = c .waiting .capacity;
+  messages = records (c .messages);
+  messageSlots = c .messages .capacity;
+  dropped = c .dropped;
+  door = door;
+}

@@ -1,4 +1,11 @@
 pub mod States
 pub mod Entering
-pub mod Replies
+pub mod Library
+pub mod Marks
+pub mod Drives
+pub mod Messages
+pub mod Verdicts
+pub mod Turns
+pub mod Making
+pub mod Posting
 pub mod Cores

@@ -1,12 +1,9 @@
--- Numbers of states and messages, and which drives may be used.
-use mathlib.Core.Bool.{Bool, true, false}
+-- Numbers of states and messages.
 use Prim.Native.Nat.{ℕ}
 use Rattle.library.specs.declared.state.State.{State}
 use Rattle.library.specs.declared.state.State.the-variants as state
 use Rattle.library.specs.declared.message.Notice.{Notice}
 use Rattle.library.specs.declared.message.Notice.the-variants as notice
-use Rattle.library.specs.declared.drive.DriveState.{DriveState}
-use Rattle.library.specs.declared.drive.DriveState.the-variants as drive
 
 -- The number that tells a state.
 abbrev pub stateNumber : State → ℕ
@@ -21,8 +18,3 @@ noticeNumber notice.Input = 1
 noticeNumber notice.Remove = 2
 noticeNumber notice.IdlePending = 3
 noticeNumber notice.Idle = 4
-
-abbrev pub isOnline : DriveState → Bool
-isOnline drive.Online = true
-isOnline drive.Offline = false
-isOnline drive.OfflinePending = false

@@ -17,7 +17,7 @@ use Rattle.robots.specs.declared.movement.Moved.{Moved}
 use Rattle.robots.specs.declared.movement.Stopped.{Stopped}
 use Rattle.robots.specs.declared.movement.Stopped.the-variants.{NoTarget, Refused}
 use Rattle.robots.specs.Meaning.{Meaning}
-use Rattle.robots.specs.Acts.{putIn}
+use Rattle.robots.specs.Acts.{putIn, switched, taken}
 use Rattle.robots.specs.Search.{isDrive, ofKind}
 use Rattle.robots.specs.Movement.{Movement, movement}
 use Rattle.stock.specs.declared.catalogue.Filed.{Filed}
@@ -31,9 +31,15 @@ use Rattle.stock.specs.Filing.{volumeOf, indexOf, refiled, unfiled, filedMore}
 use Rattle.stock.specs.Holding.{heldIn}
 use Rattle.stock.specs.Models.{Stocked}
 
--- A person puts a cartridge in.
+-- What people do: a cartridge put in, one taken out, a place switched.
 abbrev pub withPut : Stocked → ℕ → ℕ → Stocked
 withPut s p number = record { robot = putIn (s .robot) p number; filed = s .filed }
+
+abbrev pub withTaken : Stocked → ℕ → Stocked
+withTaken s p = record { robot = taken (s .robot) p; filed = s .filed }
+
+abbrev pub withSwitched : Stocked → ℕ → Bool → Stocked
+withSwitched s p on = record { robot = switched (s .robot) p on; filed = s .filed }
 
 -- The entry for a cartridge that went from p to q, or stayed.
 abbrev pub entryFor : ℕ → ℕ → ℕ → Status → Entry

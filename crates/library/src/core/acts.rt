@@ -1,9 +1,11 @@
-ghost use Rattle.library.specs.Cores.{Live, inUse, workHas};
+ghost use Rattle.library.specs.Cores.{Live, libraryOf};
+ghost use Rattle.library.specs.Making.{fresh};
+ghost use Rattle.library.specs.Posting.{withPosted};
+ghost use Rattle.stock.specs.Models.{stockOf};
+ghost use lib.ListN.{length};
+ghost use mathlib.Core.Bool.{Bool, false};
 ghost use mathlib.Core.Path.{_≡_};
 use super::Core;
-use super::Work;
-use crate::condition::Numbered;
-use crate::condition::NumberedCondition;
 use crate::drive::DriveState;
 use crate::message::Message;
 use crate::message::Notice;
@@ -15,16 +17,6 @@ use ring::Ring;
 use robots::robot::Robot;
 use stock::stock::Stock;
 
-/// Whether the request at work has this number.
-fn work_has(work: Option<Work>, number: u16) -> bool
-    ensures { λ r. ⌜ r ≡ workHas work number ⌝ }
-{
-    match work {
-        Some(work) => work.request.number == number,
-        None => false,
-    }
-}
-
 impl<'a, R: Robot> Core<'a, R> {
     /// A new library: idle, with all drives online.
     pub fn new(
@@ -32,7 +24,8 @@ impl<'a, R: Robot> Core<'a, R> {
         waiting: &'a mut [Request],
         messages: &'a mut [Message],
     ) -> Core<'a, R>
-        ensures { λ r. ⌜ Live r ⌝ }
+        ensures library { λ r. ⌜ libraryOf (R·Questions .meaning) false r ≡ fresh (stockOf (R·Questions .meaning) stock) (length (now (waiting .entry))) (length (now (messages .entry))) ⌝ }
+        ensures live { λ r. ⌜ Live r ⌝ }
     {
         let waiting = Ring::new(waiting, REQUEST_SLOTS);
         let messages = Ring::new(messages, MESSAGE_SLOTS);
@@ -47,26 +40,24 @@ impl<'a, R: Robot> Core<'a, R> {
         }
     }
 
-    /// Posts a message to the operator; where the queue is full it is dropped and counted.
-    pub fn post(&mut self, notice: Notice, number: u16)
+    /// Posts a message to the operator, if there is one; where the queue is full it is dropped and counted.
+    pub fn post(&mut self, notice: Option<Notice>, number: u16)
         requires { ⌜ Live (now self) ⌝ }
-        ensures { λ _. ⌜ Live (now (self .exit)) ⌝ }
+        ensures library { λ _. ⌜ ((door : Bool) → libraryOf (R·Questions .meaning) door (now (self .exit)) ≡ withPosted notice number (libraryOf (R·Questions .meaning) door (now (self .entry)))) ⌝ }
+        ensures live { λ _. ⌜ Live (now (self .exit)) ⌝ }
     {
+        let Some(notice) = notice else {
+            return;
+        };
         if self.messages
             .push(Message {
                 kind: notice.number(),
                 number,
             })
             .is_err() {
-            self.dropped = self.dropped.saturating_add(1);
+            if self.dropped < 65535 {
+                self.dropped += 1;
+            }
         }
-    }
-
-    /// Whether a request with this number is waiting or at work.
-    pub fn in_use(&self, number: u16) -> bool
-        requires { ⌜ Live (now self) ⌝ }
-        ensures { λ r. ⌜ r ≡ inUse (now (self .entry)) number ⌝ }
-    {
-        work_has(self.work, number) || self.waiting.any(&Numbered(number))
     }
 }

@@ -1,7 +1,7 @@
 //! What is asked of a stock, and what people do at its places.
 
 ghost use Prim.Native.Nat.{_<_};
-ghost use Rattle.robots.specs.Acts.{putAnswer};
+ghost use Rattle.robots.specs.Acts.{putAnswer, switchAnswer, takeAnswer};
 ghost use Rattle.robots.specs.Meaning.{count};
 ghost use Rattle.robots.specs.Search.{isDrive, isPort, nextFullPort, ofKind};
 ghost use Rattle.std.specs.Options.{Cases as BySome};
@@ -9,7 +9,7 @@ ghost use Rattle.stock.specs.Catalogues.{filedIn};
 ghost use Rattle.stock.specs.Filing.{volumeOf};
 ghost use Rattle.stock.specs.Holding.{heldIn};
 ghost use Rattle.stock.specs.Models.{stockOf};
-ghost use Rattle.stock.specs.Moves.{withPut};
+ghost use Rattle.stock.specs.Moves.{withPut, withSwitched, withTaken};
 ghost use mathlib.Core.Path.{_≡_};
 use super::Stock;
 use crate::catalogue::Catalogue;
@@ -78,5 +78,21 @@ impl<R: Robot> Stock<R> {
         ensures after { λ _. ⌜ stockOf (R·Questions .meaning) (now (self .exit)) ≡ withPut (stockOf (R·Questions .meaning) (now (self .entry))) p number ⌝ }
     {
         self.robot.put(p, number)
+    }
+
+    /// A person takes the cartridge out, and its number is told.
+    pub fn take(&mut self, p: u16) -> Result<u32, Fault>
+        ensures answer { λ r. ⌜ r ≡ takeAnswer (stockOf (R·Questions .meaning) (now (self .entry)) .robot) p ⌝ }
+        ensures after { λ _. ⌜ stockOf (R·Questions .meaning) (now (self .exit)) ≡ withTaken (stockOf (R·Questions .meaning) (now (self .entry))) p ⌝ }
+    {
+        self.robot.take(p)
+    }
+
+    /// Puts a place into service, or out of it.
+    pub fn switch(&mut self, p: u16, on: bool) -> Result<(), Fault>
+        ensures answer { λ r. ⌜ r ≡ switchAnswer (stockOf (R·Questions .meaning) (now (self .entry)) .robot) p ⌝ }
+        ensures after { λ _. ⌜ stockOf (R·Questions .meaning) (now (self .exit)) ≡ withSwitched (stockOf (R·Questions .meaning) (now (self .entry))) p on ⌝ }
+    {
+        self.robot.switch(p, on)
     }
 }
