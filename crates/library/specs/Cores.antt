@@ -1,6 +1,6 @@
 -- The library that a core stands for.
 use mathlib.Core.Path.{_≡_}
-use mathlib.Core.Bool.{Bool}
+use mathlib.Core.Bool.{false}
 use lib.ListN.{length}
 use Rattle.std.specs.declared.option.Option.{Option}
 use Rattle.std.specs.declared.option.Option.the-variants.{Some, None}
@@ -23,9 +23,9 @@ abbrev pub workOf : Option Work → Option Job
 workOf None = None
 workOf (Some w) = Some (jobOf w)
 
--- Seen with the door open or shut.
-abbrev pub libraryOf : {R : Type 0} → (R → Meaning) → Bool → Core R → Library
-libraryOf meaning door c = record {
+-- A core stands for a library whose door is shut.
+abbrev pub libraryOf : {R : Type 0} → (R → Meaning) → Core R → Library
+libraryOf meaning c = record {
   stock = stockOf meaning (c .stock);
   state = c .state;
   drives = c .drives;
@@ -35,5 +35,5 @@ libraryOf meaning door c = record {
   messages = records (c .messages);
   messageSlots = c .messages .capacity;
   dropped = c .dropped;
-  door = door;
+  door = false;
 }

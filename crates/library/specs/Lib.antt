@@ -5,6 +5,7 @@ pub mod Marks
 pub mod Drives
 pub mod Messages
 pub mod Verdicts
+pub mod Finals
 pub mod Turns
 pub mod Making
 pub mod Posting

@@ -17,16 +17,20 @@ pub data Going : Type 0 where
   stays : ℕ → List Entry → Going
   ends : Ending → Going
 
--- Robot and catalogue, the state, a message, and how the request goes on.
-pub record Turned : Type 0 where
-  pub stock : Stocked
+-- The state, a message, and how the request goes on.
+pub record Course : Type 0 where
   pub state : State
   pub notice : Option Notice
   pub goes : Going
+
+-- That, and robot and catalogue.
+pub record Turned : Type 0 where
+  pub stock : Stocked
+  pub course : Course
 
 abbrev pub goingOf : Goes → Going
 goingOf (Stays p es) = stays p (entriesIn es)
 goingOf (Ends v) = ends (verdictOf v)
 
-abbrev pub turnOf : Stocked → Turn → Turned
-turnOf s t = record { stock = s; state = t .state; notice = t .notice; goes = goingOf (t .goes) }
+abbrev pub courseOf : Turn → Course
+courseOf t = record { state = t .state; notice = t .notice; goes = goingOf (t .goes) }

@@ -1,6 +1,7 @@
 ghost use Rattle.library.specs.Verdicts.{doneWith, movedVerdict, refusedBy, shownBy, toldState, verdictOf};
 ghost use mathlib.Core.Path.{_≡_};
 use crate::entries::Entries;
+use requests::Request;
 use responses::Entry;
 use statuses::Status;
 use stock::refusal::Refusal;
@@ -20,6 +21,13 @@ pub struct Verdict {
     pub status: Status,
     pub detail: Option<u8>,
     pub tail: Tail,
+}
+
+/// A final: the request that it ends, and how.
+#[derive(Clone, Copy)]
+pub struct Final {
+    pub request: Request,
+    pub verdict: Verdict,
 }
 
 /// Success.

@@ -3,7 +3,6 @@ ghost use Rattle.library.specs.Making.{fresh};
 ghost use Rattle.library.specs.Posting.{withPosted};
 ghost use Rattle.stock.specs.Models.{stockOf};
 ghost use lib.ListN.{length};
-ghost use mathlib.Core.Bool.{Bool, false};
 ghost use mathlib.Core.Path.{_≡_};
 use super::Core;
 use crate::drive::DriveState;
@@ -24,7 +23,7 @@ impl<'a, R: Robot> Core<'a, R> {
         waiting: &'a mut [Request],
         messages: &'a mut [Message],
     ) -> Core<'a, R>
-        ensures library { λ r. ⌜ libraryOf (R·Questions .meaning) false r ≡ fresh (stockOf (R·Questions .meaning) stock) (length (now (waiting .entry))) (length (now (messages .entry))) ⌝ }
+        ensures library { λ r. ⌜ libraryOf (R·Questions .meaning) r ≡ fresh (stockOf (R·Questions .meaning) stock) (length (now (waiting .entry))) (length (now (messages .entry))) ⌝ }
         ensures live { λ r. ⌜ Live r ⌝ }
     {
         let waiting = Ring::new(waiting, REQUEST_SLOTS);
@@ -43,7 +42,7 @@ impl<'a, R: Robot> Core<'a, R> {
     /// Posts a message to the operator, if there is one; where the queue is full it is dropped and counted.
     pub fn post(&mut self, notice: Option<Notice>, number: u16)
         requires { ⌜ Live (now self) ⌝ }
-        ensures library { λ _. ⌜ ((door : Bool) → libraryOf (R·Questions .meaning) door (now (self .exit)) ≡ withPosted notice number (libraryOf (R·Questions .meaning) door (now (self .entry)))) ⌝ }
+        ensures library { λ _. ⌜ libraryOf (R·Questions .meaning) (now (self .exit)) ≡ withPosted notice number (libraryOf (R·Questions .meaning) (now (self .entry))) ⌝ }
         ensures live { λ _. ⌜ Live (now (self .exit)) ⌝ }
     {
         let Some(notice) = notice else {
