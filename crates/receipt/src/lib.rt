@@ -2,3 +2,4 @@
 
 pub mod checks;
 pub mod receive;
+pub mod refusal;
