@@ -8,15 +8,14 @@ use Rattle.std.specs.declared.result.Result.{Result}
 use Rattle.std.specs.declared.result.Result.the-variants.{Ok, Err}
 use Rattle.robots.specs.declared.fault.Fault.{Fault}
 use Rattle.robots.specs.declared.fault.Fault.the-variants.{NoPlace, HandFull, HandEmpty, OutOfService, PlaceEmpty, PlaceFull, BadNumber}
-use Rattle.robots.specs.Meaning.{Meaning, count}
-use Rattle.robots.specs.Acts.{putRefusal, putIn}
+use Rattle.robots.specs.Meaning.{count}
+use Rattle.robots.specs.Acts.{putAnswer, switchAnswer, takeAnswer}
 use Rattle.robots.specs.Search.{isPort, ofKind}
-use Rattle.requests.specs.Bodies.{commandIn}
-use Rattle.requests.specs.declared.commands.Command.{Command}
-use Rattle.requests.specs.declared.commands.Command.the-variants as command
-use Rattle.library.specs.declared.core.Work.{Work}
+use Rattle.requests.specs.declared.bodies.Body.{Body}
+use Rattle.requests.specs.declared.bodies.Body.the-variants as body
+use Rattle.library.specs.Library.{Job, Library}
 use Rattle.stock.specs.Models.{Stocked}
-use Rattle.stock.specs.Moves.{withPut}
+use Rattle.stock.specs.Moves.{withPut, withSwitched, withTaken}
 use Rattle.server.specs.declared.refusal.CallRefusal.{CallRefusal}
 use Rattle.server.specs.declared.refusal.CallRefusal.the-variants as refusal
 
@@ -41,47 +40,95 @@ whyNotPut (PlaceEmpty p) = refusal.PlaceFull
 whyNotPut (PlaceFull p) = refusal.PlaceFull
 whyNotPut (BadNumber p) = refusal.NoNumber
 
+-- What a take that the robot refused is told.
+abbrev pub whyNotTaken : Fault → CallRefusal
+whyNotTaken (NoPlace p) = refusal.NoPlace
+whyNotTaken (HandFull p) = refusal.PlaceEmpty
+whyNotTaken (HandEmpty p) = refusal.PlaceEmpty
+whyNotTaken (OutOfService p) = refusal.PlaceEmpty
+whyNotTaken (PlaceEmpty p) = refusal.PlaceEmpty
+whyNotTaken (PlaceFull p) = refusal.PlaceEmpty
+whyNotTaken (BadNumber p) = refusal.PlaceEmpty
+
 -- Whether an enter is at work.
-abbrev pub isEnter : Command → Bool
-isEnter command.Cancel = false
-isEnter command.Dismount = false
-isEnter command.Eject = false
-isEnter command.Enter = true
-isEnter command.Idle = false
-isEnter command.Mount = false
-isEnter command.Query = false
-isEnter command.Start = false
-isEnter command.Vary = false
+abbrev pub isEnter : Body → Bool
+isEnter (body.Cancel target) = false
+isEnter (body.Dismount label drive force) = false
+isEnter (body.Eject label) = false
+isEnter body.Enter = true
+isEnter (body.Idle force) = false
+isEnter (body.Mount label drive) = false
+isEnter (body.Query label) = false
+isEnter body.Start = false
+isEnter (body.Vary drive setting) = false
 
-abbrev pub entering : Option Work → Bool
+abbrev pub entering : Option Job → Bool
 entering None = false
-entering (Some w) = isEnter (commandIn (w .request .body))
+entering (Some j) = isEnter (j .request .body)
 
--- What the robot's refusal becomes.
-abbrev pub robotRefuses : Option Fault → Option CallRefusal
-robotRefuses None = None
-robotRefuses (Some fault) = Some (whyNotPut fault)
-
--- Why a put is refused while the door is shut, in the order in which it is tested.
-abbrev pub putRefused : Stocked → Bool → ℕ → ℕ → Option CallRefusal
-putRefused s busy p number =
-    cond (ltb p (count (s .robot)))
-    (cond (ofKind isPort (s .robot) p)
-    (cond busy (Some refusal.EnterAtWork) (robotRefuses (putRefusal (s .robot) p number)))
-    (Some refusal.NotPort))
+-- Whether a hand reaches a place while the door is shut: no such place, not a port place, an enter at work.
+abbrev pub reach : Library → ℕ → Option CallRefusal
+reach l p =
+    cond (ltb p (count (l .stock .robot)))
+    (cond (ofKind isPort (l .stock .robot) p) (cond (entering (l .work)) (Some refusal.EnterAtWork) None) (Some refusal.NotPort))
     (Some refusal.NoPlace)
 
-abbrev pub putAnswerBy : Option CallRefusal → Result (Unit {0}) CallRefusal
-putAnswerBy None = Ok tt
-putAnswerBy (Some why) = Err why
+-- What a call of a person answers, and the library after it.
+pub record Handled (A : Type 0) : Type 0 where
+  pub answer : Result A CallRefusal
+  pub library : Library
 
-abbrev pub putAnswer : Stocked → Bool → ℕ → ℕ → Result (Unit {0}) CallRefusal
-putAnswer s busy p number = putAnswerBy (putRefused s busy p number)
+abbrev pub withStock : Stocked → Library → Library
+withStock s l = record {
+  stock = s;
+  state = l .state;
+  drives = l .drives;
+  work = l .work;
+  waiting = l .waiting;
+  slots = l .slots;
+  messages = l .messages;
+  messageSlots = l .messageSlots;
+  dropped = l .dropped;
+  door = l .door;
+}
 
--- What it leaves: the cartridge at its place, or all as it was.
-abbrev pub putLeftBy : Option CallRefusal → Stocked → ℕ → ℕ → Stocked
-putLeftBy None s p number = withPut s p number
-putLeftBy (Some why) s p number = s
+-- A refused call changes nothing.
+abbrev pub barredHand : {A : Type 0} → CallRefusal → Library → Handled A
+barredHand why l = record { answer = Err why; library = l }
 
-abbrev pub putLeft : Stocked → Bool → ℕ → ℕ → Stocked
-putLeft s busy p number = putLeftBy (putRefused s busy p number) s p number
+-- What the robot answers, told to the person; where it refuses, it leaves all as it was.
+abbrev pub toldBy : {A : Type 0} → (Fault → CallRefusal) → Result A Fault → Result A CallRefusal
+toldBy why (Ok x) = Ok x
+toldBy why (Err fault) = Err (why fault)
+
+-- Put: within reach, as the robot answers.
+abbrev pub putIf : Option CallRefusal → Library → ℕ → ℕ → Handled (Unit {0})
+putIf (Some why) l p number = barredHand why l
+putIf None l p number = record {
+  answer = toldBy whyNotPut (putAnswer (l .stock .robot) p number);
+  library = withStock (withPut (l .stock) p number) l;
+}
+
+abbrev pub putCall : Library → ℕ → ℕ → Handled (Unit {0})
+putCall l p number = putIf (reach l p) l p number
+
+-- Take: within reach, as the robot answers.
+abbrev pub takeIf : Option CallRefusal → Library → ℕ → Handled ℕ
+takeIf (Some why) l p = barredHand why l
+takeIf None l p = record {
+  answer = toldBy whyNotTaken (takeAnswer (l .stock .robot) p);
+  library = withStock (withTaken (l .stock) p) l;
+}
+
+abbrev pub takeCall : Library → ℕ → Handled ℕ
+takeCall l p = takeIf (reach l p) l p
+
+-- A place is switched at any time.
+abbrev pub noSuchPlace : Fault → CallRefusal
+noSuchPlace fault = refusal.NoPlace
+
+abbrev pub serviceCall : Library → ℕ → Bool → Handled (Unit {0})
+serviceCall l p on = record {
+  answer = toldBy noSuchPlace (switchAnswer (l .stock .robot) p);
+  library = withStock (withSwitched (l .stock) p on) l;
+}

@@ -1,3 +1,3 @@
-pub mod Buffers
+pub mod Answers
 pub mod Hands
-pub mod Refusing
+pub mod Calls

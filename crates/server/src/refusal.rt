@@ -1,4 +1,4 @@
-ghost use Rattle.server.specs.Hands.{refusalNumber, whyNotPut};
+ghost use Rattle.server.specs.Hands.{refusalNumber, whyNotPut, whyNotTaken};
 ghost use mathlib.Core.Path.{_≡_};
 use robots::fault::Fault;
 
@@ -49,5 +49,15 @@ pub fn why_not_put(fault: Fault) -> CallRefusal
         Fault::NoPlace(_) => CallRefusal::NoPlace,
         Fault::BadNumber(_) => CallRefusal::NoNumber,
         _ => CallRefusal::PlaceFull,
+    }
+}
+
+/// What a take that the robot refused is told.
+pub fn why_not_taken(fault: Fault) -> CallRefusal
+    ensures { λ r. ⌜ r ≡ whyNotTaken fault ⌝ }
+{
+    match fault {
+        Fault::NoPlace(_) => CallRefusal::NoPlace,
+        _ => CallRefusal::PlaceEmpty,
     }
 }

@@ -1,12 +1,15 @@
 //! Responses written into the caller's buffer.
 
-ghost use Prim.Native.Nat.{_≤_};
-ghost use Rattle.server.specs.Buffers.{Behind};
-ghost use lib.ListN.{length};
+ghost use Rattle.library.specs.Finals.{finalOf};
+ghost use Rattle.receipt.specs.Accepting.{saidBy};
+ghost use Rattle.responses.specs.Responses.{told};
+ghost use Rattle.responses.specs.Writing.{left};
+ghost use Rattle.server.specs.Answers.{acknowledgeTold, badTold, finalTold, lengthIn, saidTold};
+ghost use Rattle.stock.specs.Models.{stockOf};
 ghost use mathlib.Core.Path.{_≡_};
 use library::core::Core;
-use library::reply::Reply;
-use library::reply::Tail;
+use library::verdict::Final;
+use library::verdict::Tail;
 use receipt::receive::Answer;
 use requests::BadPacket;
 use requests::Request;
@@ -17,7 +20,8 @@ use statuses::Status;
 
 /// Writes the response, and tells its length.
 fn send(response: &Response, buffer: &mut [u8]) -> usize
-    ensures { λ r. ⌜ Behind (now (buffer .entry)) (now (buffer .exit)) r ⌝ }
+    ensures length { λ r. ⌜ r ≡ lengthIn (now (buffer .entry)) (told (now (response .entry))) ⌝ }
+    ensures after { λ _. ⌜ now (buffer .exit) ≡ left (told (now (response .entry))) (now (buffer .entry)) ⌝ }
 {
     match response.write(buffer) {
         Ok(length) => length,
@@ -27,7 +31,8 @@ fn send(response: &Response, buffer: &mut [u8]) -> usize
 
 /// Writes the final that refuses a packet.
 pub fn send_bad_packet(bad: BadPacket, buffer: &mut [u8]) -> usize
-    ensures { λ r. ⌜ Behind (now (buffer .entry)) (now (buffer .exit)) r ⌝ }
+    ensures length { λ r. ⌜ r ≡ lengthIn (now (buffer .entry)) (badTold bad) ⌝ }
+    ensures after { λ _. ⌜ now (buffer .exit) ≡ left (badTold bad) (now (buffer .entry)) ⌝ }
 {
     let response = Response::plain(
         bad.number,
@@ -40,7 +45,8 @@ pub fn send_bad_packet(bad: BadPacket, buffer: &mut [u8]) -> usize
 }
 
 fn send_acknowledge(request: Request, buffer: &mut [u8]) -> usize
-    ensures { λ r. ⌜ Behind (now (buffer .entry)) (now (buffer .exit)) r ⌝ }
+    ensures length { λ r. ⌜ r ≡ lengthIn (now (buffer .entry)) (acknowledgeTold request) ⌝ }
+    ensures after { λ _. ⌜ now (buffer .exit) ≡ left (acknowledgeTold request) (now (buffer .entry)) ⌝ }
 {
     let command = request.body.command().code();
     let response = Response::plain(
@@ -54,40 +60,33 @@ fn send_acknowledge(request: Request, buffer: &mut [u8]) -> usize
 }
 
 /// Writes a final; an inventory is asked of the robot now.
-pub fn send_final<R: Robot>(core: &Core<R>, reply: Reply, buffer: &mut [u8]) -> usize
-    ensures { λ r. ⌜ Behind (now (buffer .entry)) (now (buffer .exit)) r ⌝ }
+pub fn send_final<R: Robot>(core: &Core<R>, ended: Final, buffer: &mut [u8]) -> usize
+    ensures length { λ r. ⌜ r ≡ lengthIn (now (buffer .entry)) (finalTold (finalOf ended) (stockOf (R·Questions .meaning) (now (core .entry) .stock) .robot)) ⌝ }
+    ensures after { λ _. ⌜ now (buffer .exit) ≡ left (finalTold (finalOf ended) (stockOf (R·Questions .meaning) (now (core .entry) .stock) .robot)) (now (buffer .entry)) ⌝ }
 {
-    let number = Some(reply.number);
-    let command = Some(reply.command);
-    match reply.tail {
+    let number = Some(ended.request.number);
+    let command = Some(ended.request.body.command().code());
+    let status = ended.verdict.status;
+    let detail = ended.verdict.detail;
+    match ended.verdict.tail {
         Tail::Nothing => send(
-            &Response::plain(
-                number,
-                command,
-                ResponseKind::Final,
-                reply.status,
-                reply.detail,
-            ),
+            &Response::plain(number, command, ResponseKind::Final, status, detail),
             buffer,
         ),
         Tail::One(entry) => send(
-            &Response::with_entries(number, command, reply.status, reply.detail, &[entry]),
+            &Response::with_entries(number, command, status, detail, &[entry]),
             buffer,
         ),
-        Tail::Many(entries) => send(
-            &Response::with_entries(
-                number,
-                command,
-                reply.status,
-                reply.detail,
-                entries.as_slice(),
-            ),
-            buffer,
-        ),
+        Tail::Many(entries) => {
+            send(
+                &Response::with_entries(number, command, status, detail, entries.as_slice()),
+                buffer,
+            )
+        }
         Tail::Inventory => {
             let places = core.stock.inventory();
             send(
-                &Response::with_inventory(number, command, reply.status, reply.detail, &places),
+                &Response::with_inventory(number, command, status, detail, &places),
                 buffer,
             )
         }
@@ -96,10 +95,11 @@ pub fn send_final<R: Robot>(core: &Core<R>, reply: Reply, buffer: &mut [u8]) -> 
 
 /// Writes what a received request is answered.
 pub fn send_answer<R: Robot>(core: &Core<R>, answer: Answer, buffer: &mut [u8]) -> usize
-    ensures { λ r. ⌜ Behind (now (buffer .entry)) (now (buffer .exit)) r ⌝ }
+    ensures length { λ r. ⌜ r ≡ lengthIn (now (buffer .entry)) (saidTold (saidBy answer) (stockOf (R·Questions .meaning) (now (core .entry) .stock) .robot)) ⌝ }
+    ensures after { λ _. ⌜ now (buffer .exit) ≡ left (saidTold (saidBy answer) (stockOf (R·Questions .meaning) (now (core .entry) .stock) .robot)) (now (buffer .entry)) ⌝ }
 {
     match answer {
         Answer::Acknowledge(request) => send_acknowledge(request, buffer),
-        Answer::Final(reply) => send_final(core, reply, buffer),
+        Answer::Final(ended) => send_final(core, ended, buffer),
     }
 }

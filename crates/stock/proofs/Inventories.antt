@@ -16,4 +16,5 @@ shown-more m xs i x h e inv =
     ∙ ap (λ (y : ℕ). map (shownAt m) (counting 0 i) ++ y ∷ []) e ∙ sym (map-counting-more (shownAt m) 0 i i (omega arith))
 
 pub shown-all : (m : Meaning) (xs : List ℕ) (i : ℕ) → length xs ≡ 256 → i ≡ 256 → take i xs ≡ map (shownAt m) (counting 0 i) → xs ≡ inventoryOf m
+unfolding inventoryOf
 shown-all m xs i l e inv = sym (take-all i xs (omega arith)) ∙ inv ∙ ap (λ (n : ℕ). map (shownAt m) (counting 0 n)) e

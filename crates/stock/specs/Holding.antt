@@ -17,7 +17,7 @@ abbrev pub shownAt : Meaning → ℕ → ℕ
 shownAt m p = cond (ofKind isPort m p) 0 (heldIn m p)
 
 -- An inventory tells 256 places.
-abbrev pub inventoryOf : Meaning → List ℕ
+unfoldable pub inventoryOf : Meaning → List ℕ
 inventoryOf m = map (shownAt m) (counting 0 256)
 
 -- A cartridge with a label that can be read.

@@ -1,18 +1,23 @@
-ghost use Rattle.server.specs.Buffers.{Behind};
-ghost use Rattle.library.specs.Cores.{Live};
-ghost use Rattle.server.specs.Refusing.{numberRead, receiveRefusal, refusalIn, stepRefusal, used, usedBy};
-ghost use Rattle.server.specs.Hands.{entering, putAnswer, putLeft};
-ghost use Rattle.stock.specs.Models.{stockOf};
-ghost use Rattle.std.specs.Vec.{made, refused};
+ghost use Rattle.library.specs.Cores.{Live, libraryOf, workOf};
+ghost use Rattle.library.specs.Making.{fresh};
+ghost use Rattle.server.specs.Calls.{inUse, numberRead, receiveCall, stepCall, usedBy, workHas};
+ghost use Rattle.server.specs.Hands.{putCall, serviceCall, takeCall};
+ghost use Rattle.std.specs.Vec.{made};
 ghost use lib.ListN.{length};
+ghost use mathlib.Core.List.{[]};
 ghost use mathlib.Core.Path.{_≡_};
 use super::Serving;
-use crate::hands::put_shut;
+use crate::hands::put;
+use crate::hands::switch;
+use crate::hands::take;
 use crate::refusal::CallRefusal;
 use crate::sending::send_answer;
 use crate::sending::send_bad_packet;
 use crate::sending::send_final;
 use library::core::Core;
+use library::core::Work;
+use library::marks::Numbered;
+use library::marks::NumberedCondition;
 use library::message::Message;
 use receipt::receive::receive;
 use requests::BadPacket;
@@ -21,7 +26,7 @@ use requests::read;
 use robots::robot::Robot;
 use std::alloc::AllocError;
 use std::alloc::Global;
-use steps::turns::step;
+use steps::step::step;
 use stock::catalogue::Catalogue;
 use stock::stock::Stock;
 
@@ -38,13 +43,29 @@ fn number_in(read: &Result<Request, BadPacket>) -> Option<u16>
     }
 }
 
-/// Whether that number is one waiting or at work.
+fn work_has(work: Option<Work>, number: u16) -> bool
+    ensures { λ r. ⌜ r ≡ workHas (workOf work) number ⌝ }
+{
+    match work {
+        Some(work) => work.request.number == number,
+        None => false,
+    }
+}
+
+fn in_use<R: Robot>(core: &Core<R>, number: u16) -> bool
+    requires { ⌜ Live (now core) ⌝ }
+    ensures { λ r. ⌜ r ≡ inUse (libraryOf (R·Questions .meaning) (now (core .entry))) number ⌝ }
+{
+    work_has(core.work, number) || core.waiting.any(&Numbered(number))
+}
+
+/// Whether the number is one waiting or at work.
 fn is_used<R: Robot>(core: &Core<R>, number: Option<u16>) -> bool
     requires { ⌜ Live (now core) ⌝ }
-    ensures { λ r. ⌜ r ≡ usedBy (now (core .entry)) number ⌝ }
+    ensures { λ r. ⌜ r ≡ usedBy (libraryOf (R·Questions .meaning) (now (core .entry))) number ⌝ }
 {
     match number {
-        Some(number) => core.in_use(number),
+        Some(number) => in_use(core, number),
         None => false,
     }
 }
@@ -57,7 +78,9 @@ impl<'a, R: Robot + Drop> Serving<'a, R> {
         robot: R,
         waiting: &'a mut [Request],
         messages: &'a mut [Message],
-    ) -> Result<Serving<'a, R>, AllocError> {
+    ) -> Result<Serving<'a, R>, AllocError>
+        ensures { λ r. ⌜ made r (λ s. libraryOf (R·Questions .meaning) (s .core) ≡ fresh (record { robot = R·Questions .meaning robot; filed = [] }) (length (now (waiting .entry))) (length (now (messages .entry)))) ⌝ }
+    {
         let catalogue = Catalogue::new(heap)?;
         let core = Core::new(Stock::new(robot, catalogue), waiting, messages);
         Ok(Serving { core })
@@ -67,10 +90,9 @@ impl<'a, R: Robot + Drop> Serving<'a, R> {
 impl<'a, R: Robot> Serving<'a, R> {
     /// Receives a packet: writes one response at the front of the buffer, and tells its length.
     pub fn receive(&mut self, packet: &[u8], buffer: &mut [u8]) -> Result<usize, CallRefusal>
-        ensures refusal { λ r. ⌜ refusalIn r ≡ receiveRefusal (length (now (buffer .entry))) (used (now (self .entry) .core) (now (packet .entry))) ⌝ }
-        ensures behind { λ r. ⌜ made r (λ n. Behind (now (buffer .entry)) (now (buffer .exit)) n) ⌝ }
-        ensures buffer { λ r. ⌜ refused r (λ _. now (buffer .exit) ≡ now (buffer .entry)) ⌝ }
-        ensures library { λ r. ⌜ refused r (λ _. now (self .exit) .core ≡ now (self .entry) .core) ⌝ }
+        ensures answer { λ r. ⌜ r ≡ receiveCall (now (packet .entry)) (now (buffer .entry)) (libraryOf (R·Questions .meaning) (now (self .entry) .core)) .answer ⌝ }
+        ensures buffer { λ _. ⌜ now (buffer .exit) ≡ receiveCall (now (packet .entry)) (now (buffer .entry)) (libraryOf (R·Questions .meaning) (now (self .entry) .core)) .buffer ⌝ }
+        ensures library { λ _. ⌜ libraryOf (R·Questions .meaning) (now (self .exit) .core) ≡ receiveCall (now (packet .entry)) (now (buffer .entry)) (libraryOf (R·Questions .meaning) (now (self .entry) .core)) .library ⌝ }
     {
         if buffer.len() < RESPONSE_ROOM {
             return Err(CallRefusal::ShortBuffer);
@@ -90,25 +112,40 @@ impl<'a, R: Robot> Serving<'a, R> {
 
     /// Goes one step on: writes the final that it ends a request with, and tells its length, or 0 where it writes nothing.
     pub fn step(&mut self, buffer: &mut [u8]) -> Result<usize, CallRefusal>
-        ensures refusal { λ r. ⌜ refusalIn r ≡ stepRefusal (length (now (buffer .entry))) ⌝ }
-        ensures behind { λ r. ⌜ made r (λ n. Behind (now (buffer .entry)) (now (buffer .exit)) n) ⌝ }
-        ensures buffer { λ r. ⌜ refused r (λ _. now (buffer .exit) ≡ now (buffer .entry)) ⌝ }
-        ensures library { λ r. ⌜ refused r (λ _. now (self .exit) .core ≡ now (self .entry) .core) ⌝ }
+        ensures answer { λ r. ⌜ r ≡ stepCall (now (buffer .entry)) (libraryOf (R·Questions .meaning) (now (self .entry) .core)) .answer ⌝ }
+        ensures buffer { λ _. ⌜ now (buffer .exit) ≡ stepCall (now (buffer .entry)) (libraryOf (R·Questions .meaning) (now (self .entry) .core)) .buffer ⌝ }
+        ensures library { λ _. ⌜ libraryOf (R·Questions .meaning) (now (self .exit) .core) ≡ stepCall (now (buffer .entry)) (libraryOf (R·Questions .meaning) (now (self .entry) .core)) .library ⌝ }
     {
         if buffer.len() < RESPONSE_ROOM {
             return Err(CallRefusal::ShortBuffer);
         }
         match step(&mut self.core) {
             None => Ok(0),
-            Some(reply) => Ok(send_final(&self.core, reply, buffer)),
+            Some(ended) => Ok(send_final(&self.core, ended, buffer)),
         }
     }
 
     /// A person puts a cartridge into a port place.
     pub fn put(&mut self, place: u16, number: u32) -> Result<(), CallRefusal>
-        ensures answer { λ r. ⌜ r ≡ putAnswer (stockOf (R·Questions .meaning) (now (self .entry) .core .stock)) (entering (now (self .entry) .core .work)) place number ⌝ }
-        ensures stock { λ _. ⌜ stockOf (R·Questions .meaning) (now (self .exit) .core .stock) ≡ putLeft (stockOf (R·Questions .meaning) (now (self .entry) .core .stock)) (entering (now (self .entry) .core .work)) place number ⌝ }
+        ensures answer { λ r. ⌜ r ≡ putCall (libraryOf (R·Questions .meaning) (now (self .entry) .core)) place number .answer ⌝ }
+        ensures library { λ _. ⌜ libraryOf (R·Questions .meaning) (now (self .exit) .core) ≡ putCall (libraryOf (R·Questions .meaning) (now (self .entry) .core)) place number .library ⌝ }
     {
-        put_shut(&mut self.core, place, number)
+        put(&mut self.core, place, number)
+    }
+
+    /// A person takes the cartridge out of a port place, and its number is told.
+    pub fn take(&mut self, place: u16) -> Result<u32, CallRefusal>
+        ensures answer { λ r. ⌜ r ≡ takeCall (libraryOf (R·Questions .meaning) (now (self .entry) .core)) place .answer ⌝ }
+        ensures library { λ _. ⌜ libraryOf (R·Questions .meaning) (now (self .exit) .core) ≡ takeCall (libraryOf (R·Questions .meaning) (now (self .entry) .core)) place .library ⌝ }
+    {
+        take(&mut self.core, place)
+    }
+
+    /// Puts a place into service, or out of it.
+    pub fn service(&mut self, place: u16, on: bool) -> Result<(), CallRefusal>
+        ensures answer { λ r. ⌜ r ≡ serviceCall (libraryOf (R·Questions .meaning) (now (self .entry) .core)) place on .answer ⌝ }
+        ensures library { λ _. ⌜ libraryOf (R·Questions .meaning) (now (self .exit) .core) ≡ serviceCall (libraryOf (R·Questions .meaning) (now (self .entry) .core)) place on .library ⌝ }
+    {
+        switch(&mut self.core, place, on)
     }
 }
