@@ -1,6 +1,6 @@
 -- What one write after another leaves in a buffer.
-use mathlib.Core.Path.{_≡_, refl, ap, sym, _∙_, subst}
-use mathlib.Core.List.{List, [], _∷_, _++_, append-assoc}
+use mathlib.Core.Path.{_≡_, ap, sym, _∙_, subst}
+use mathlib.Core.List.{List, [], _++_, append-assoc}
 use Prim.Native.Nat.{ℕ, _+_, _-_, _≤_}
 use native.Mathlib.Nat.{add-zero, zero-add}
 use native.Mathlib.Omega.{arith}
@@ -10,7 +10,7 @@ use lib.Seq.{drop-drop, length-take-le}
 use Rattle.std.proofs.shelf.Lists.{take-at, drop-at}
 use Rattle.std.specs.declared.option.Option.{Option}
 use Rattle.std.specs.declared.option.Option.the-variants.{Some, None}
-use Rattle.bytes.specs.Putting.{over, Wrote, oneBytes, twoBytes, sixBytes}
+use Rattle.bytes.specs.Putting.{over, Wrote, oneBytes, twoBytes}
 
 pub over-none : (at : ℕ) (xs : List ℕ) → over at [] xs ≡ xs
 over-none at xs = rw (add-zero, take-append-drop)

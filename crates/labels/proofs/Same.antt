@@ -1,10 +1,10 @@
 -- A label is its characters.
 use mathlib.Core.Path.{_≡_, refl, ap, sym, _∙_}
 use mathlib.Core.HLevel.{isProp→PathP}
-use mathlib.Core.Bool.{Bool, true, false, cond, not}
-use mathlib.Core.List.{List, [], _∷_}
+use mathlib.Core.Bool.{true, false, not}
+use mathlib.Core.List.{List}
 use mathlib.Core.Logic.{_⊎_, inl, inr}
-use Prim.Native.Nat.{ℕ, _-_, _<_, _≤_}
+use Prim.Native.Nat.{ℕ, _<_, _≤_}
 use native.Mathlib.Omega.{arith}
 use base.Stored.{codedBool}
 use denote.Struct.Props.{≡-prop}
@@ -12,13 +12,12 @@ use Rattle.std.proofs.shelf.Ways.{tells}
 use Rattle.std.specs.Options.{isSome}
 use Rattle.std.specs.declared.option.Option.{Option}
 use Rattle.std.specs.declared.option.Option.the-variants.{Some, None}
-use Rattle.std.specs.declared.result.Result.{Result}
 use Rattle.std.specs.declared.result.Result.the-variants.{Ok, Err}
 use Rattle.labels.specs.declared.Label.{Label}
 use Rattle.labels.specs.declared.WrongCharacter.{WrongCharacter}
 use Rattle.labels.specs.Characters.{firstWrong, allRight}
 use Rattle.labels.specs.Numbers.{labelOf, highestNumber}
-use Rattle.labels.specs.Labels.{labelledBy, labelled, labelIn, isLabelNumber, numbered}
+use Rattle.labels.specs.Labels.{labelledBy, labelled, isLabelNumber, numbered}
 use Rattle.labels.proofs.Wrongs.{some-none, none-wrong}
 
 -- Two labels with the same characters are the same.
@@ -32,14 +31,6 @@ by-none l cs (Some i) e p = absurd (some-none i (sym e ∙ ap (firstWrong 0) (sy
 -- A label is what its characters make.
 pub labelled-is : (l : Label) (cs : List ℕ) → l .chars ≡ cs → Ok l ≡ labelled cs
 labelled-is l cs p = by-none l cs (firstWrong 0 cs) refl p
-
-by-some : (cs : List ℕ) (i : ℕ) (o : Option ℕ) (e : firstWrong 0 cs ≡ o) → Some i ≡ o → Err (record { index = i }) ≡ labelledBy o cs e
-by-some cs i None e p = absurd (some-none i p)
-by-some cs i (Some k) e p = let q : i ≡ k = cc in ap (λ (n : ℕ). Err (record { index = n })) q
-
--- Characters of which one is wrong make none.
-pub wrong-is : (cs : List ℕ) (i : ℕ) → Some i ≡ firstWrong 0 cs → Err (record { index = i }) ≡ labelled cs
-wrong-is cs i p = by-some cs i (firstWrong 0 cs) refl p
 
 -- Whether a number is a label's.
 pub in-range : (n : ℕ) → 1 ≤ n → n ≤ highestNumber → isLabelNumber n ≡ true
@@ -77,14 +68,3 @@ wrong-by cs w (Some i) e h = let p : w ≡ record { index = i } = cc in ap (λ (
 -- The index told is that of the first wrong character.
 pub wrong-of : (cs : List ℕ) (w : WrongCharacter) → Err w ≡ labelled cs → Some (w .index) ≡ firstWrong 0 cs
 wrong-of cs w h = wrong-by cs w (firstWrong 0 cs) refl h
-
-by-range : (n : ℕ) (b : Bool) (r : Result Label WrongCharacter) (l : Label) → isLabelNumber n ≡ b → r ≡ labelled (labelOf n) → Some l ≡ cond b (labelIn r) None
-    → (isLabelNumber n ≡ true) × (l .chars ≡ labelOf n)
-by-range n false r l e f h = absurd (some-none l h)
-by-range n true (Err w) l e f h = absurd (some-none l h)
-by-range n true (Ok k) l e f h = let p : l ≡ k = cc in (e, ap (λ (x : Label). x .chars) p ∙ made-of (labelOf n) k f .0)
-
--- The label with the number n has the characters of n, and n is a label's number.
-pub numbered-some : (n : ℕ) (l : Label) → Some l ≡ numbered n → (isLabelNumber n ≡ true) × (l .chars ≡ labelOf n)
-unfolding numbered
-numbered-some n l h = by-range n (isLabelNumber n) (labelled (labelOf n)) l refl refl h

@@ -1,7 +1,7 @@
 -- Six bytes that stand for a cartridge, and its number.
 use mathlib.Core.Path.{_≡_, refl, ap, sym, _∙_}
 use mathlib.Core.Bool.{Bool, true, false, cond}
-use mathlib.Core.List.{List, [], _∷_}
+use mathlib.Core.List.{List}
 use mathlib.Core.Logic.{inr}
 use Prim.Native.Nat.{ℕ, _+_, _-_, _<_, _≤_}
 use native.Mathlib.Omega.{arith}
@@ -20,7 +20,7 @@ use Rattle.labels.specs.Numbers.{numberOf, labelOf, highestNumber, unreadableN
 use Rattle.labels.specs.Labels.{isLabelNumber, isCartridgeNumber, questionMarks, charactersOrMarks, sixFor, numberBy, numberOfSix}
 use Rattle.labels.proofs.Wrongs.{some-none, all-right}
 use Rattle.labels.proofs.Same.{in-range, label-range, out-of-range, numbered-is, numbered-none}
-use Rattle.labels.proofs.Digits.{number-back, characters-right, Counted, counted}
+use Rattle.labels.proofs.Digits.{number-back, characters-right, counted}
 
 -- A label's number gives its characters, every other number question marks.
 pub six-in : (n : ℕ) → isLabelNumber n ≡ true → labelOf n ≡ sixFor n

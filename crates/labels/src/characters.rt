@@ -1,6 +1,6 @@
 //! Which characters make a label.
 
-ghost use Prim.Native.Nat.{_<_, _≤_};
+ghost use Prim.Native.Nat.{_≤_};
 ghost use Rattle.labels.specs.Characters.{firstWrong, right};
 ghost use Rattle.labels.specs.Labels.{labelled};
 ghost use lib.ListN.{length};

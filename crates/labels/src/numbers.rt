@@ -1,6 +1,6 @@
 //! The cartridge number of a label, and back.
 
-ghost use Prim.Native.Nat.{_<_, _≤_};
+ghost use Prim.Native.Nat.{_<_};
 ghost use Rattle.labels.specs.Characters.{right};
 ghost use Rattle.labels.specs.Labels.{isLabelNumber, numbered};
 ghost use Rattle.std.specs.Options.{Cases};

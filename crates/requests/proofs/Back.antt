@@ -1,7 +1,7 @@
 -- A packet of fields is taken apart into these fields again, and so what is written reads back.
 use mathlib.Core.Path.{_≡_, refl, ap, sym, _∙_}
 use mathlib.Core.Bool.{Bool, true, false, cond}
-use mathlib.Core.List.{List, [], _∷_, _++_, append-nil}
+use mathlib.Core.List.{List, [], _++_, append-nil}
 use Prim.Native.Nat.{ℕ, _<_, _≤_}
 use native.Mathlib.Omega.{arith}
 use lib.Dec.{ltb}
@@ -23,11 +23,11 @@ use Rattle.requests.specs.declared.taking.Fields.{Fields}
 use Rattle.requests.specs.declared.taking.Taken.{Taken}
 use Rattle.requests.specs.declared.values.Values.{Values}
 use Rattle.requests.specs.declared.writing.Unwritable.{Unwritable}
-use Rattle.requests.specs.declared.writing.Unwritable.the-variants.{SmallBuffer, BadFields}
-use Rattle.requests.specs.Taking.{mapAlone, withNumber, withCommand, withOption, withLabel, withPlace, withTarget, withState, next, endingOf, fromState, fromTarget, fromPlace, fromLabel, fromOption, fromCommand, fromNumber, taken}
+use Rattle.requests.specs.declared.writing.Unwritable.the-variants.{SmallBuffer}
+use Rattle.requests.specs.Taking.{mapAlone, withNumber, withCommand, withOption, withLabel, withPlace, withTarget, withState, next, endingOf, fromState, fromTarget, fromPlace, fromLabel, fromOption, fromCommand, taken}
 use Rattle.requests.specs.Checking.{checked}
 use Rattle.requests.specs.Reading.{answeredBy, answered, requestIn}
-use Rattle.requests.specs.Values.{when, fieldsOf, fieldsFor}
+use Rattle.requests.specs.Values.{when, fieldsOf}
 use Rattle.requests.specs.Writing.{packetOf, badFields, unwritable, answerBy, answer, leftBy, left}
 use Rattle.requests.specs.RoundTrips.{ReadsBack}
 use Rattle.requests.proofs.Sent.{Stands, when-there, fields-sent}

@@ -1,19 +1,18 @@
 -- The fields that a packet of the right length is taken apart into make that packet again, and so what reads is what is written.
 use mathlib.Core.Path.{_≡_, refl, ap, sym, _∙_}
-use mathlib.Core.Bool.{Bool, true, false, cond}
+use mathlib.Core.Bool.{Bool, false, cond}
 use mathlib.Core.List.{List, [], _∷_, _++_, append-nil}
 use Prim.Native.Nat.{ℕ, _<_, _≤_}
 use native.Mathlib.Omega.{arith}
 use lib.Dec.{ltb}
 use lib.ListN.{length, drop}
 use borrow.Author.Tests.{le-ltb}
-use Rattle.std.specs.Options.{isSome}
 use Rattle.std.specs.Vec.{made}
 use Rattle.std.specs.declared.option.Option.{Option}
 use Rattle.std.specs.declared.option.Option.the-variants.{Some, None}
 use Rattle.std.specs.declared.result.Result.{Result}
 use Rattle.std.specs.declared.result.Result.the-variants.{Ok, Err}
-use Rattle.bytes.specs.Taking.{hasBit, oneOff, twoOff, sixOff, Bytes}
+use Rattle.bytes.specs.Taking.{hasBit, Bytes}
 use Rattle.bytes.specs.Putting.{oneBytes, twoBytes, sixBytes}
 use Rattle.bytes.proofs.Forth.{Cut, one-forth, two-forth, six-forth}
 use Rattle.requests.specs.declared.bodies.Request.{Request}

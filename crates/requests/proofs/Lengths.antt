@@ -2,7 +2,7 @@
 use mathlib.Core.Path.{_≡_, refl, ap, sym, _∙_, subst}
 use mathlib.Core.Bool.{Bool, true, false, cond}
 use mathlib.Core.List.{List, [], _∷_}
-use Prim.Native.Nat.{ℕ, suc, _+_, _<_, _≤_}
+use Prim.Native.Nat.{ℕ, _+_, _<_, _≤_}
 use native.Mathlib.Nat.{add-zero}
 use native.Mathlib.Omega.{arith}
 use lib.Dec.{ltb}
@@ -17,7 +17,6 @@ use Rattle.statuses.specs.Statuses.{statusNumber}
 use Rattle.labels.specs.declared.Label.{Label}
 use Rattle.labels.specs.declared.WrongCharacter.{WrongCharacter}
 use Rattle.labels.specs.Labels.{labelled}
-use Rattle.requests.specs.declared.commands.Command.{Command}
 use Rattle.requests.specs.declared.bodies.DriveSetting.{DriveSetting}
 use Rattle.requests.specs.declared.bodies.Request.{Request}
 use Rattle.requests.specs.declared.refusals.BadPacket.{BadPacket}
@@ -30,10 +29,10 @@ use Rattle.requests.specs.declared.taking.Taken.{Taken}
 use Rattle.requests.specs.Commands.{commandOf}
 use Rattle.requests.specs.Bodies.{settingOf}
 use Rattle.requests.specs.Refusals.{causeStatus}
-use Rattle.requests.specs.Taking.{mapAlone, withNumber, withCommand, withOption, withLabel, withPlace, withTarget, withState, next, endingOf, fromState, fromTarget, fromPlace, fromLabel, fromOption, fromCommand, fromNumber, taken}
+use Rattle.requests.specs.Taking.{mapAlone, withNumber, withCommand, withOption, withLabel, withPlace, withTarget, withState, next, endingOf, fromState, fromTarget, fromPlace, fromLabel, fromOption, fromCommand, fromNumber}
 use Rattle.requests.specs.Checking.{found, commandField, bitsBy, bitsRight, lowestWrong, labelBy, labelField, settingBy, settingField, andThen, madeOf, checkedSetting, checkedLabel, checkedBits, checked}
 use Rattle.requests.specs.Reading.{judgedBy, answeredBy, requestIn}
-use Rattle.requests.specs.Lengths.{widthIf, widthOf, Shorter, Longer, answeredWith, Exactly, LengthTold}
+use Rattle.requests.specs.Lengths.{widthIf, widthOf, answeredWith, Exactly, LengthTold}
 
 -- The ending of n bytes where the map says w.
 abbrev byLength : ℕ → ℕ → Ending

@@ -25,9 +25,9 @@ use Rattle.requests.specs.declared.taking.Fields.{Fields}
 use Rattle.requests.specs.Commands.{row, commandNumber}
 use Rattle.requests.specs.Bodies.{settingNumber}
 use Rattle.requests.specs.Taking.{held}
-use Rattle.requests.specs.Checking.{wrongAt, wrongOption, noLabel, bodyOf, checked, madeOf}
-use Rattle.requests.specs.Values.{when, fieldsOf, fieldsFor}
-use Rattle.requests.proofs.Passed.{true-false, passed, AllRight, all-right}
+use Rattle.requests.specs.Checking.{wrongAt, wrongOption, noLabel, bodyOf, checked}
+use Rattle.requests.specs.Values.{when, fieldsFor}
+use Rattle.requests.proofs.Passed.{true-false, passed, all-right}
 
 -- Each field is there exactly where its bit stands, and the map is a byte.
 pub record Stands (f : Fields) : Type 0 where

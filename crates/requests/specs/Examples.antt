@@ -1,5 +1,5 @@
 -- Worked packets.
-use mathlib.Core.List.{List, [], _∷_, _++_}
+use mathlib.Core.List.{[], _∷_, _++_}
 use mathlib.Core.Path.{_≡_, refl}
 use lib.Chars.{codes}
 use Rattle.std.specs.declared.option.Option.the-variants.{Some, None}

@@ -7,7 +7,6 @@ use lib.ListN.{length}
 use Rattle.std.specs.declared.result.Result.{Result}
 use Rattle.std.specs.declared.result.Result.the-variants.{Ok, Err}
 use Rattle.bytes.specs.Taking.{hasBit}
-use Rattle.statuses.specs.declared.Status.{Status}
 use Rattle.statuses.specs.declared.Status.the-variants as status
 use Rattle.statuses.specs.Statuses.{statusNumber}
 use Rattle.requests.specs.declared.bodies.Request.{Request}

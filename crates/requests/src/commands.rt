@@ -1,6 +1,5 @@
 //! The nine commands, with the bits that each needs and permits.
 
-ghost use Prim.Native.Nat.{_<_};
 ghost use Rattle.requests.specs.Commands.{commandOf, row};
 ghost use mathlib.Core.Path.{_≡_};
 

@@ -1,3 +1,5 @@
+//! A packet read as a request.
+
 ghost use Rattle.requests.specs.Lengths.{LengthTold};
 ghost use Rattle.requests.specs.Reading.{answered, judged, requestIn};
 ghost use Rattle.requests.specs.RoundTrips.{WritesBack};

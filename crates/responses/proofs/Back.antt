@@ -11,14 +11,14 @@ use Rattle.std.proofs.shelf.Lists.{take-at, drop-at}
 use Rattle.std.specs.Options.{isSome}
 use Rattle.std.specs.declared.option.Option.{Option}
 use Rattle.std.specs.declared.option.Option.the-variants.{Some, None}
-use Rattle.bytes.specs.Taking.{hasBit, oneOff, twoOff, sixOff}
+use Rattle.bytes.specs.Taking.{hasBit, oneOff, twoOff}
 use Rattle.bytes.specs.Putting.{oneBytes, twoBytes}
 use Rattle.bytes.proofs.Back as field
 use Rattle.labels.specs.Numbers.{unreadableNumber}
-use Rattle.labels.specs.Labels.{sixFor, numberOfSix}
+use Rattle.labels.specs.Labels.{sixFor}
 use Rattle.labels.proofs.Sixes.{length-six, six-back}
 use Rattle.statuses.specs.declared.Status.{Status}
-use Rattle.statuses.specs.Statuses.{statusNumber, statusOf}
+use Rattle.statuses.specs.Statuses.{statusNumber}
 use Rattle.statuses.proofs.Numbers.{status-of-number}
 use Rattle.responses.specs.declared.Entry.{Entry}
 use Rattle.responses.specs.declared.ResponseKind.{ResponseKind}
@@ -28,7 +28,7 @@ use Rattle.responses.specs.Responses.{Told, kindNumber, countOf}
 use Rattle.responses.specs.Entries.{behindLabel, entryBytes, eachBytes, entriesBytes}
 use Rattle.responses.specs.Inventories.{mapBytes, labelBytes, labelsBytes, inventoryBytes}
 use Rattle.responses.specs.Writing.{layerByte, mapOf, bytesOf}
-use Rattle.responses.specs.Reading.{after, given, kindIn, statusIn, same, detailOff, layerOff, statusOff, kindOff, commandOff, headOff, cartridgeFrom, cartridgeOff, entryFrom, entryOff, consed, eachOff, entriesOff, bitsOf, placeOff, placesOff, inventoryOff, maybe, ended, toldIn, inventoryOn, entriesOn, responseIn}
+use Rattle.responses.specs.Reading.{after, given, kindIn, statusIn, same, detailOff, layerOff, statusOff, kindOff, commandOff, headOff, cartridgeFrom, cartridgeOff, entryFrom, entryOff, consed, eachOff, entriesOff, placeOff, placesOff, inventoryOff, maybe, ended, toldIn, inventoryOn, entriesOn, responseIn}
 use Rattle.responses.specs.RoundTrips.{padded, allPlaces, filled, Entered, Placed, Where, Sound, ReadsBack}
 use Rattle.responses.proofs.Marking.{length-map-bytes}
 use Rattle.responses.proofs.Bits.{MapBits, map-bits}

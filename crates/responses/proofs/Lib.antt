@@ -5,4 +5,9 @@ pub mod Taking
 pub mod Bits
 pub mod Padding
 pub mod Back
+pub mod Handed
+pub mod ReadCartridge
+pub mod ReadEntries
+pub mod ReadInventory
+pub mod ReadHead
 pub mod Forth

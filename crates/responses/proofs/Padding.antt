@@ -2,17 +2,16 @@
 use mathlib.Core.Path.{_≡_, refl, ap, sym, _∙_}
 use mathlib.Core.Bool.{Bool, true, false, cond}
 use mathlib.Core.List.{List, [], _∷_, _++_, map}
-use Prim.Native.Nat.{ℕ, zero, suc, _+_, _*_, _/_, _%_, _<_, _≤_}
+use Prim.Native.Nat.{ℕ, zero, suc, _*_, _<_, _≤_}
 use native.Mathlib.Omega.{arith}
 use lib.Dec.{eqb}
 use lib.ListN.{length, drop, getD}
 use Rattle.std.proofs.shelf.Ways.{tells}
-use Rattle.bytes.specs.Taking.{hasBit}
 use Rattle.labels.specs.Numbers.{unreadableNumber}
-use Rattle.responses.specs.Inventories.{bit, byteOf, mapBytes, labelBytes, labelsBytes}
+use Rattle.responses.specs.Inventories.{bit, mapBytes, labelBytes, labelsBytes}
 use Rattle.responses.specs.Reading.{bitsOf}
 use Rattle.responses.specs.RoundTrips.{padded, Placed}
-use Rattle.responses.proofs.Bits.{Eight, place-bits}
+use Rattle.responses.proofs.Bits.{place-bits}
 
 -- As many as there are places add nothing.
 pub padded-whole : (n : ℕ) (xs : List ℕ) → length xs ≡ n → padded n xs ≡ xs

@@ -55,11 +55,6 @@ each-stop n i rest es l h =
     ap (λ (j : ℕ). prefixed (take i es) (eachOff j rest)) q
     ∙ ap (λ (o : Option (Entry × List ℕ)). prefixed (take i es) (after o (λ x r. consed x (eachOff (n - (i + 1)) r)))) (sym h)
 
-pub each-end : (n i : ℕ) (rest : List ℕ) (es : List Entry) → n ≡ i → prefixed (take i es) (eachOff (n - i) rest) ≡ Some (take n es, rest)
-each-end n i rest es e =
-    let z : n - i ≡ 0 = omega arith in
-    ap (λ (j : ℕ). prefixed (take i es) (eachOff j rest)) z ∙ ap (λ (l : List Entry). Some (l, rest)) (append-nil (take i es) ∙ ap (λ (j : ℕ). take j es) (sym e))
-
 -- The bit of a place.
 core : (m : List ℕ) (j r : ℕ) → r < 8 → j < length m → getD (bitsOf m) (8 * j + r) false ≡ eqb (getD m j 0 / 2 ^ r % 2) 1
 unfolding bitsOf

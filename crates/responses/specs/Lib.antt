@@ -4,3 +4,4 @@ pub mod Inventories
 pub mod Writing
 pub mod Reading
 pub mod RoundTrips
+pub mod Examples

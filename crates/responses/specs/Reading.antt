@@ -17,7 +17,7 @@ use Rattle.responses.specs.declared.Response.{Response}
 use Rattle.responses.specs.declared.ResponseKind.{ResponseKind}
 use Rattle.responses.specs.declared.ResponseKind.the-variants.{Acknowledge, Final}
 use Rattle.responses.specs.declared.reading.Head.{Head}
-use Rattle.responses.specs.Responses.{Told, held, kindNumber, listed, told}
+use Rattle.responses.specs.Responses.{mostEntries, Told, held, kindNumber, listed, told}
 use Rattle.responses.specs.Writing.{layerByte}
 
 -- What was cut off the front, handed on with the bytes behind it.
@@ -96,14 +96,15 @@ abbrev pub consed : {X : Type 0} → X → Option (List X × List ℕ) → Optio
 consed x None = None
 consed x (Some p) = Some (x ∷ p .0, p .1)
 
--- As many entries as the count says, at most 21.
+-- As many entries as the count says.
 abbrev pub eachOff : ℕ → List ℕ → Option (List Entry × List ℕ)
 eachOff zero bs = Some ([], bs)
 eachOff (suc n) bs = after (entryOff bs) (λ e rest. consed e (eachOff n rest))
 
+-- No response has more than the most.
 abbrev pub entriesOff : List ℕ → Option (List Entry × List ℕ)
 entriesOff [] = None
-entriesOff (n ∷ bs) = cond (leb n 21) (eachOff n bs) None
+entriesOff (n ∷ bs) = cond (leb n mostEntries) (eachOff n bs) None
 
 -- The bits of map bytes, the lowest of each first.
 unfoldable pub bitsOf : List ℕ → List Bool

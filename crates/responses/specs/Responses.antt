@@ -13,6 +13,16 @@ use Rattle.responses.specs.declared.Response.{Response}
 use Rattle.responses.specs.declared.ResponseKind.{ResponseKind}
 use Rattle.responses.specs.declared.ResponseKind.the-variants.{Acknowledge, Final}
 
+-- Every response finds room in a buffer of so many bytes. It has at most so many entries, and an inventory at most so many places.
+abbrev pub enoughBytes : ℕ
+enoughBytes = 2048
+
+abbrev pub mostEntries : ℕ
+mostEntries = 21
+
+abbrev pub mostPlaces : ℕ
+mostPlaces = 256
+
 -- The number of each kind.
 abbrev pub kindNumber : ResponseKind → ℕ
 kindNumber Acknowledge = 1

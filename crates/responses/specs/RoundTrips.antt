@@ -9,7 +9,7 @@ use Rattle.std.specs.declared.result.Result.the-variants.{Ok}
 use Rattle.labels.specs.Numbers.{unreadableNumber}
 use Rattle.responses.specs.declared.Entry.{Entry}
 use Rattle.responses.specs.declared.Response.{Response}
-use Rattle.responses.specs.Responses.{Told, held, told}
+use Rattle.responses.specs.Responses.{enoughBytes, mostPlaces, Told, held, told}
 use Rattle.responses.specs.Writing.{answer, left}
 use Rattle.responses.specs.Reading.{responseIn}
 
@@ -21,9 +21,9 @@ padded (suc n) (x ∷ xs) = x ∷ padded n xs
 
 abbrev pub allPlaces : Option (List ℕ) → Option (List ℕ)
 allPlaces None = None
-allPlaces (Some xs) = Some (padded 256 xs)
+allPlaces (Some xs) = Some (padded mostPlaces xs)
 
--- A response, its inventory with all 256 places.
+-- A response, its inventory with every place that there can be.
 abbrev pub filled : Told → Told
 filled t = held (t .number) (t .command) (t .kind) (t .status) (t .detail) (t .entries) (allPlaces (t .inventory))
 
@@ -51,8 +51,8 @@ ReadsBack t p = Sound t → responseIn p ≡ Some (filled t)
 
 -- A packet p is what the writer makes of what was read: into any buffer with room it writes just p, and tells p's length.
 pub record WritesBack (t : Told) (p : List ℕ) : Type 0 where
-  pub length-told : (n : ℕ) → 2048 ≤ n → answer n t ≡ Ok (length p)
-  pub buffer : (xs : List ℕ) → 2048 ≤ length xs → left t xs ≡ p ++ drop (length p) xs
+  pub length-told : (n : ℕ) → enoughBytes ≤ n → answer n t ≡ Ok (length p)
+  pub buffer : (xs : List ℕ) → enoughBytes ≤ length xs → left t xs ≡ p ++ drop (length p) xs
 
 abbrev pub WrittenBack : Option Response → List ℕ → Type 0
 WrittenBack None p = Unit {0}

@@ -1,6 +1,6 @@
 -- The bytes of a response, and what the writer leaves in a buffer.
 use mathlib.Core.Bool.{Bool, cond}
-use mathlib.Core.List.{List, [], _∷_, _++_}
+use mathlib.Core.List.{List, _∷_, _++_}
 use Prim.Native.Nat.{ℕ, _+_}
 use lib.Dec.{ltb}
 use lib.ListN.{length, drop}
@@ -14,7 +14,7 @@ use Rattle.statuses.specs.declared.Status.{Status}
 use Rattle.statuses.specs.Statuses.{row, statusNumber, layerNumber}
 use Rattle.responses.specs.declared.writing.Unwritable.{Unwritable}
 use Rattle.responses.specs.declared.writing.Unwritable.the-variants.{SmallBuffer, ManyEntries, ManyPlaces}
-use Rattle.responses.specs.Responses.{Told, kindNumber, countOf}
+use Rattle.responses.specs.Responses.{enoughBytes, mostEntries, mostPlaces, Told, kindNumber, countOf}
 use Rattle.responses.specs.Entries.{entriesBytes}
 use Rattle.responses.specs.Inventories.{inventoryBytes}
 
@@ -41,9 +41,9 @@ bytesOf t =
 -- Why a response is not written into a buffer of n bytes.
 abbrev pub unwritable : ℕ → Told → Option Unwritable
 unwritable n t =
-    cond (ltb n 2048) (Some SmallBuffer)
-    (cond (ltb 21 (countOf (t .entries))) (Some ManyEntries)
-    (cond (ltb 256 (countOf (t .inventory))) (Some ManyPlaces) None))
+    cond (ltb n enoughBytes) (Some SmallBuffer)
+    (cond (ltb mostEntries (countOf (t .entries))) (Some ManyEntries)
+    (cond (ltb mostPlaces (countOf (t .inventory))) (Some ManyPlaces) None))
 
 -- What the writer answers: the length, or why not.
 abbrev pub answerBy : Option Unwritable → Told → Result ℕ Unwritable

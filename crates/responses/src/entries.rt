@@ -1,14 +1,15 @@
 //! Entries: a count byte, then nine bytes for each.
 
-ghost use Prim.Native.Nat.{ℕ, _*_, _+_, _≤_};
+ghost use Prim.Native.Nat.{_*_, _+_, _≤_};
 ghost use Rattle.bytes.specs.Putting.{Wrote};
 ghost use Rattle.responses.specs.Entries.{behindLabel, eachBytes, entriesBytes, entryBytes};
 ghost use Rattle.bytes.specs.Taking.{seen};
 ghost use Rattle.responses.specs.Reading.{eachOff, entriesOff, entryOff, gathered, maybe, seenList};
-ghost use Rattle.responses.specs.Responses.{countOf, listed};
+ghost use Rattle.responses.specs.Responses.{countOf, listed, mostEntries};
 ghost use lib.ListN.{length, take};
 ghost use mathlib.Core.Path.{_≡_};
 use crate::Entry;
+use crate::MOST_ENTRIES;
 use crate::cartridges::take_cartridge;
 use bytes::put;
 use labels::six_for;
@@ -102,7 +103,7 @@ pub(crate) fn take_entries<'a, 'b>(
     bytes: &'b [u8],
     entries: &'a mut [Entry],
 ) -> Option<(Option<&'a [Entry]>, &'b [u8])>
-    requires { ⌜ 21 ≤ length (now entries) ⌝ }
+    requires { ⌜ mostEntries ≤ length (now entries) ⌝ }
     ensures { λ r. ⌜ seenList r ≡ maybe there entriesOff (now (bytes .entry)) ⌝ }
 {
     if !there {
@@ -112,7 +113,7 @@ pub(crate) fn take_entries<'a, 'b>(
         return None;
     };
     let count = *count as usize;
-    if count > 21 {
+    if count > MOST_ENTRIES {
         return None;
     }
     let Some(rest) = take_each(rest, count, entries) else {

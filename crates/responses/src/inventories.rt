@@ -1,15 +1,16 @@
 //! An inventory: a map of 32 bytes with a bit for each place, then six bytes for each place whose
 //! bit stands.
 
-ghost use Prim.Native.Nat.{ℕ, _%_, _*_, _+_, _^_, _<_, _≤_};
+ghost use Prim.Native.Nat.{_%_, _*_, _+_, _^_, _<_, _≤_};
 ghost use Rattle.bytes.specs.Putting.{Wrote};
 ghost use Rattle.responses.specs.Inventories.{inventoryBytes, labelBytes, labelsBytes, mapBytes};
 ghost use Rattle.bytes.specs.Taking.{seen};
 ghost use Rattle.responses.specs.Reading.{bitsOf, gathered, inventoryOff, maybe, placeOff, seenList};
-ghost use Rattle.responses.specs.Responses.{countOf, listed};
+ghost use Rattle.responses.specs.Responses.{countOf, listed, mostPlaces};
 ghost use lib.ListN.{getD, length};
 ghost use mathlib.Core.Bool.{false};
 ghost use mathlib.Core.Path.{_≡_};
+use crate::MOST_PLACES;
 use crate::cartridges::take_cartridge;
 use bytes::put;
 use labels::six_for;
@@ -23,7 +24,7 @@ fn bit_of(place: usize) -> u8
 
 /// The bits of the places that hold a cartridge, place 0 the lowest bit of the first byte.
 fn inventory_map(inventory: &[u32]) -> [u8; 32]
-    requires { ⌜ length (now inventory) ≤ 256 ⌝ }
+    requires { ⌜ length (now inventory) ≤ mostPlaces ⌝ }
     ensures { λ r. ⌜ r ≡ mapBytes 32 (now (inventory .entry)) ⌝ }
 {
     let mut map = [0u8; 32];
@@ -62,7 +63,7 @@ fn put_labels(buffer: &mut [u8], at: usize, inventory: &[u32]) -> usize
 
 pub(crate) fn put_inventory(buffer: &mut [u8], at: usize, inventory: Option<&[u32]>) -> usize
     requires room { ⌜ at + 32 + 6 * countOf (listed inventory) ≤ length (now buffer) ⌝ }
-    requires count { ⌜ countOf (listed inventory) ≤ 256 ⌝ }
+    requires count { ⌜ countOf (listed inventory) ≤ mostPlaces ⌝ }
     ensures wrote { λ r. ⌜ Wrote at (inventoryBytes (listed (inventory .entry))) (now (buffer .entry)) (now (buffer .exit)) r ⌝ }
     ensures bound { λ r. ⌜ r ≤ at + 32 + 6 * countOf (listed (inventory .entry)) ⌝ }
 {
@@ -94,7 +95,7 @@ fn take_place(there: bool, bytes: &[u8]) -> Option<(u32, &[u8])>
 
 /// An inventory off the front, into `places`.
 fn take_inventory<'b>(bytes: &'b [u8], places: &mut [u32]) -> Option<&'b [u8]>
-    requires { ⌜ length (now places) ≡ 256 ⌝ }
+    requires { ⌜ length (now places) ≡ mostPlaces ⌝ }
     ensures { λ r. ⌜ gathered r (now (places .exit)) ≡ inventoryOff (now (bytes .entry)) ⌝ }
 {
     if bytes.len() < 32 {
@@ -102,7 +103,7 @@ fn take_inventory<'b>(bytes: &'b [u8], places: &mut [u32]) -> Option<&'b [u8]>
     }
     let map = &bytes[0..32];
     let mut rest = &bytes[32..];
-    for place in 0..256 {
+    for place in 0..MOST_PLACES {
         let Some((number, behind)) = take_place(bit_at(map, place), rest) else {
             return None;
         };
@@ -118,7 +119,7 @@ pub(crate) fn take_places<'a, 'b>(
     bytes: &'b [u8],
     places: &'a mut [u32],
 ) -> Option<(Option<&'a [u32]>, &'b [u8])>
-    requires { ⌜ length (now places) ≡ 256 ⌝ }
+    requires { ⌜ length (now places) ≡ mostPlaces ⌝ }
     ensures { λ r. ⌜ seenList r ≡ maybe there inventoryOff (now (bytes .entry)) ⌝ }
 {
     if !there {

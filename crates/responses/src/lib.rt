@@ -1,20 +1,30 @@
 //! Response packets: what a response tells, how it is written into the front of a buffer, and how
 //! it is read again.
 
-ghost use Prim.Native.Nat.{ℕ};
 ghost use Rattle.responses.specs.Responses.{finalWith, held, kindNumber, refusedBy, told};
 ghost use Rattle.std.specs.declared.option.Option.the-variants.{None, Some};
 ghost use mathlib.Core.Path.{_≡_};
 
 mod cartridges;
 mod entries;
+mod examples;
 mod inventories;
 mod reading;
 mod writing;
 
+pub use examples::worked_responses;
 pub use reading::read;
 use statuses::Status;
 pub use writing::Unwritable;
+
+/// Every response finds room in a buffer of so many bytes.
+pub const ENOUGH_BYTES: usize = 2_048;
+
+/// The most entries that a response has.
+pub const MOST_ENTRIES: usize = 21;
+
+/// The most places that an inventory has.
+pub const MOST_PLACES: usize = 256;
 
 /// Whether a request was only taken, or is answered for good.
 #[derive(Clone, Copy)]

@@ -1,13 +1,15 @@
 //! A response read off a packet, field by field. `None` says that the packet is no response.
 
-ghost use Prim.Native.Nat.{ℕ, _≤_};
+ghost use Prim.Native.Nat.{_≤_};
 ghost use Rattle.bytes.specs.Taking.{seen};
 ghost use Rattle.responses.specs.Reading.{commandOff, detailOff, entriesOn, headOff, inventoryOn, kindIn, kindOff, layerOff, responseIn, same, seenResponse, statusIn, statusOff};
-ghost use Rattle.responses.specs.Responses.{listed};
+ghost use Rattle.responses.specs.Responses.{listed, mostEntries, mostPlaces};
 ghost use Rattle.responses.specs.RoundTrips.{WrittenBack};
 ghost use lib.ListN.{length};
 ghost use mathlib.Core.Path.{_≡_};
 use crate::Entry;
+use crate::MOST_ENTRIES;
+use crate::MOST_PLACES;
 use crate::Response;
 use crate::ResponseKind;
 use crate::entries::take_entries;
@@ -160,7 +162,7 @@ fn with_inventory<'a>(
     bytes: &[u8],
     places: &'a mut [u32],
 ) -> Option<Response<'a>>
-    requires { ⌜ length (now places) ≡ 256 ⌝ }
+    requires { ⌜ length (now places) ≡ mostPlaces ⌝ }
     ensures { λ r. ⌜ seenResponse r ≡ inventoryOn map head (listed (entries .entry)) (now (bytes .entry)) ⌝ }
 {
     let Some((inventory, rest)) = take_places(has(map, 128), bytes, places) else {
@@ -188,8 +190,8 @@ fn with_lists<'a>(
     entries: &'a mut [Entry],
     places: &'a mut [u32],
 ) -> Option<Response<'a>>
-    requires entries { ⌜ 21 ≤ length (now entries) ⌝ }
-    requires places { ⌜ length (now places) ≡ 256 ⌝ }
+    requires entries { ⌜ mostEntries ≤ length (now entries) ⌝ }
+    requires places { ⌜ length (now places) ≡ mostPlaces ⌝ }
     ensures { λ r. ⌜ seenResponse r ≡ entriesOn map head (now (bytes .entry)) ⌝ }
 {
     let Some((entries, rest)) = take_entries(has(map, 64), bytes, entries) else {
@@ -201,8 +203,8 @@ fn with_lists<'a>(
 /// Reads a packet as a response, its entries and places into what is lent.
 pub fn read<'a>(
     packet: &[u8],
-    entries: &'a mut [Entry; 21],
-    places: &'a mut [u32; 256],
+    entries: &'a mut [Entry; MOST_ENTRIES],
+    places: &'a mut [u32; MOST_PLACES],
 ) -> Option<Response<'a>>
     ensures answer { λ r. ⌜ seenResponse r ≡ responseIn (now (packet .entry)) ⌝ }
     ensures writes { λ r. ⌜ WrittenBack r (now (packet .entry)) ⌝ }

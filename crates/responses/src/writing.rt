@@ -1,14 +1,17 @@
 //! A response written into the front of a buffer.
 
-ghost use Prim.Native.Nat.{ℕ, _≤_};
-ghost use Rattle.responses.specs.Responses.{countOf, listed, told};
+ghost use Prim.Native.Nat.{_≤_};
+ghost use Rattle.responses.specs.Responses.{countOf, enoughBytes, listed, mostEntries, mostPlaces, told};
 ghost use Rattle.responses.specs.RoundTrips.{ReadsBack};
 ghost use Rattle.responses.specs.Writing.{answer, bytesOf, flag, layerByte, left, mapOf, unwritable};
 ghost use Rattle.std.specs.Vec.{made};
 ghost use lib.ListN.{drop, length, take};
 ghost use mathlib.Core.List.{_++_};
 ghost use mathlib.Core.Path.{_≡_};
+use crate::ENOUGH_BYTES;
 use crate::Entry;
+use crate::MOST_ENTRIES;
+use crate::MOST_PLACES;
 use crate::Response;
 use crate::entries::put_entries;
 use crate::inventories::put_inventory;
@@ -16,15 +19,6 @@ use bytes::put;
 use bytes::put_one;
 use bytes::put_two;
 use statuses::Status;
-
-/// The room that every response finds.
-const ROOM: usize = 2_048;
-
-/// The most entries that a response has.
-const MOST_ENTRIES: usize = 21;
-
-/// The most places that an inventory has.
-const MOST_PLACES: usize = 256;
 
 /// Why a response is not written.
 #[derive(Clone, Copy)]
@@ -87,7 +81,7 @@ impl Response<'_> {
     fn why_not(&self, room: usize) -> Option<Unwritable>
         ensures { λ r. ⌜ r ≡ unwritable room (told (now (self .entry))) ⌝ }
     {
-        if room < ROOM {
+        if room < ENOUGH_BYTES {
             Some(Unwritable::SmallBuffer)
         } else if count_entries(self.entries) > MOST_ENTRIES {
             Some(Unwritable::ManyEntries)
@@ -99,12 +93,12 @@ impl Response<'_> {
     }
 
     fn put(&self, buffer: &mut [u8]) -> usize
-        requires room { ⌜ 2048 ≤ length (now buffer) ⌝ }
-        requires entries { ⌜ countOf (listed (now self .entries)) ≤ 21 ⌝ }
-        requires places { ⌜ countOf (listed (now self .inventory)) ≤ 256 ⌝ }
+        requires room { ⌜ enoughBytes ≤ length (now buffer) ⌝ }
+        requires entries { ⌜ countOf (listed (now self .entries)) ≤ mostEntries ⌝ }
+        requires places { ⌜ countOf (listed (now self .inventory)) ≤ mostPlaces ⌝ }
         ensures after { λ r. ⌜ now (buffer .exit) ≡ bytesOf (told (now (self .entry))) ++ drop (length (bytesOf (told (now (self .entry))))) (now (buffer .entry)) ⌝ }
         ensures end { λ r. ⌜ r ≡ length (bytesOf (told (now (self .entry)))) ⌝ }
-        ensures bound { λ r. ⌜ r ≤ 2048 ⌝ }
+        ensures bound { λ r. ⌜ r ≤ enoughBytes ⌝ }
     {
         let at = put(buffer, 0, &[self.map()]);
         let at = put_two(buffer, at, self.number);
@@ -121,7 +115,7 @@ impl Response<'_> {
     pub fn write(&self, buffer: &mut [u8]) -> Result<usize, Unwritable>
         ensures answer { λ r. ⌜ r ≡ answer (length (now (buffer .entry))) (told (now (self .entry))) ⌝ }
         ensures after { λ _. ⌜ now (buffer .exit) ≡ left (told (now (self .entry))) (now (buffer .entry)) ⌝ }
-        ensures bound { λ r. ⌜ made r (λ n. n ≤ 2048) ⌝ }
+        ensures bound { λ r. ⌜ made r (λ n. n ≤ enoughBytes) ⌝ }
         ensures reads { λ r. ⌜ made r (λ n. ReadsBack (told (now (self .entry))) (take n (now (buffer .exit)))) ⌝ }
     {
         match self.why_not(buffer.len()) {

@@ -1,6 +1,5 @@
 use mathlib.Core.Path.{_≡_}
-use mathlib.Core.List.{List, [], _∷_, _++_, append-assoc}
-use Prim.Native.Nat.{ℕ}
+use mathlib.Core.List.{[], _∷_, _++_, append-assoc}
 use native.Mathlib.Omega.{arith}
 use Rattle.bytes.specs.Putting.{oneBytes, twoBytes, sixBytes}
 use Rattle.bytes.proofs.Overs.{wrote-then, wrote-same, wrote-front, one-width, two-width}

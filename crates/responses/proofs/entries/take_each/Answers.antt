@@ -1,6 +1,6 @@
-use mathlib.Core.Path.{_≡_, sym, _∙_}
+use mathlib.Core.Path.{sym, _∙_}
 use native.Mathlib.Omega.{arith}
-use Rattle.responses.proofs.Taking.{each-turn, each-stop, each-end}
+use Rattle.responses.proofs.Taking.{each-turn, each-stop}
 use Rattle.responses.proofs.entries.take_each.Needs as need
 
 pub returns-in-rest : need.returns-in-rest

@@ -1,8 +1,8 @@
-use mathlib.Core.Path.{_≡_, sym, ap, _∙_, refl}
+use mathlib.Core.Path.{sym, ap, _∙_, refl}
 use mathlib.Core.List.{List, []}
-use Prim.Native.Nat.{ℕ, _≤_, _<_}
+use Prim.Native.Nat.{ℕ}
 use native.Mathlib.Omega.{arith}
-use lib.ListN.{length, take, drop}
+use lib.ListN.{take}
 use Rattle.std.proofs.shelf.Lists.{take-rest}
 use lib.Seq.{length-take-le}
 use Rattle.responses.specs.Reading.{bitsOf, placesOff, prefixed}
