@@ -1,5 +1,6 @@
 //! Responses written into the caller's buffer.
 
+ghost use Prim.Native.Nat.{_≤_};
 ghost use Rattle.library.specs.Finals.{finalOf};
 ghost use Rattle.receipt.specs.Accepting.{saidBy};
 ghost use Rattle.responses.specs.Responses.{told};
@@ -22,6 +23,7 @@ use statuses::Status;
 fn send(response: &Response, buffer: &mut [u8]) -> usize
     ensures length { λ r. ⌜ r ≡ lengthIn (now (buffer .entry)) (told (now (response .entry))) ⌝ }
     ensures after { λ _. ⌜ now (buffer .exit) ≡ left (told (now (response .entry))) (now (buffer .entry)) ⌝ }
+    ensures bound { λ r. ⌜ r ≤ 2048 ⌝ }
 {
     match response.write(buffer) {
         Ok(length) => length,
@@ -33,6 +35,7 @@ fn send(response: &Response, buffer: &mut [u8]) -> usize
 pub fn send_bad_packet(bad: BadPacket, buffer: &mut [u8]) -> usize
     ensures length { λ r. ⌜ r ≡ lengthIn (now (buffer .entry)) (badTold bad) ⌝ }
     ensures after { λ _. ⌜ now (buffer .exit) ≡ left (badTold bad) (now (buffer .entry)) ⌝ }
+    ensures bound { λ r. ⌜ r ≤ 2048 ⌝ }
 {
     let response = Response::plain(
         bad.number,
@@ -47,6 +50,7 @@ pub fn send_bad_packet(bad: BadPacket, buffer: &mut [u8]) -> usize
 fn send_acknowledge(request: Request, buffer: &mut [u8]) -> usize
     ensures length { λ r. ⌜ r ≡ lengthIn (now (buffer .entry)) (acknowledgeTold request) ⌝ }
     ensures after { λ _. ⌜ now (buffer .exit) ≡ left (acknowledgeTold request) (now (buffer .entry)) ⌝ }
+    ensures bound { λ r. ⌜ r ≤ 2048 ⌝ }
 {
     let command = request.body.command().code();
     let response = Response::plain(
@@ -63,6 +67,7 @@ fn send_acknowledge(request: Request, buffer: &mut [u8]) -> usize
 pub fn send_final<R: Robot>(core: &Core<R>, ended: Final, buffer: &mut [u8]) -> usize
     ensures length { λ r. ⌜ r ≡ lengthIn (now (buffer .entry)) (finalTold (finalOf ended) (stockOf (R·Questions .meaning) (now (core .entry) .stock) .robot)) ⌝ }
     ensures after { λ _. ⌜ now (buffer .exit) ≡ left (finalTold (finalOf ended) (stockOf (R·Questions .meaning) (now (core .entry) .stock) .robot)) (now (buffer .entry)) ⌝ }
+    ensures bound { λ r. ⌜ r ≤ 2048 ⌝ }
 {
     let number = Some(ended.request.number);
     let command = Some(ended.request.body.command().code());
@@ -97,6 +102,7 @@ pub fn send_final<R: Robot>(core: &Core<R>, ended: Final, buffer: &mut [u8]) -> 
 pub fn send_answer<R: Robot>(core: &Core<R>, answer: Answer, buffer: &mut [u8]) -> usize
     ensures length { λ r. ⌜ r ≡ lengthIn (now (buffer .entry)) (saidTold (saidBy answer) (stockOf (R·Questions .meaning) (now (core .entry) .stock) .robot)) ⌝ }
     ensures after { λ _. ⌜ now (buffer .exit) ≡ left (saidTold (saidBy answer) (stockOf (R·Questions .meaning) (now (core .entry) .stock) .robot)) (now (buffer .entry)) ⌝ }
+    ensures bound { λ r. ⌜ r ≤ 2048 ⌝ }
 {
     match answer {
         Answer::Acknowledge(request) => send_acknowledge(request, buffer),

@@ -10,3 +10,5 @@ mod label_numbers;
 mod packets;
 #[cfg(test)]
 mod queues;
+#[cfg(test)]
+mod sessions;

@@ -1,3 +1,4 @@
+ghost use Prim.Native.Nat.{_≤_};
 ghost use Rattle.library.specs.Cores.{Live, libraryOf, workOf};
 ghost use Rattle.library.specs.Making.{fresh};
 ghost use Rattle.server.specs.Calls.{inUse, numberRead, receiveCall, stepCall, usedBy, workHas};
@@ -93,6 +94,7 @@ impl<'a, R: Robot> Serving<'a, R> {
         ensures answer { λ r. ⌜ r ≡ receiveCall (now (packet .entry)) (now (buffer .entry)) (libraryOf (R·Questions .meaning) (now (self .entry) .core)) .answer ⌝ }
         ensures buffer { λ _. ⌜ now (buffer .exit) ≡ receiveCall (now (packet .entry)) (now (buffer .entry)) (libraryOf (R·Questions .meaning) (now (self .entry) .core)) .buffer ⌝ }
         ensures library { λ _. ⌜ libraryOf (R·Questions .meaning) (now (self .exit) .core) ≡ receiveCall (now (packet .entry)) (now (buffer .entry)) (libraryOf (R·Questions .meaning) (now (self .entry) .core)) .library ⌝ }
+        ensures bound { λ r. ⌜ made r (λ n. n ≤ 2048) ⌝ }
     {
         if buffer.len() < RESPONSE_ROOM {
             return Err(CallRefusal::ShortBuffer);
@@ -115,6 +117,7 @@ impl<'a, R: Robot> Serving<'a, R> {
         ensures answer { λ r. ⌜ r ≡ stepCall (now (buffer .entry)) (libraryOf (R·Questions .meaning) (now (self .entry) .core)) .answer ⌝ }
         ensures buffer { λ _. ⌜ now (buffer .exit) ≡ stepCall (now (buffer .entry)) (libraryOf (R·Questions .meaning) (now (self .entry) .core)) .buffer ⌝ }
         ensures library { λ _. ⌜ libraryOf (R·Questions .meaning) (now (self .exit) .core) ≡ stepCall (now (buffer .entry)) (libraryOf (R·Questions .meaning) (now (self .entry) .core)) .library ⌝ }
+        ensures bound { λ r. ⌜ made r (λ n. n ≤ 2048) ⌝ }
     {
         if buffer.len() < RESPONSE_ROOM {
             return Err(CallRefusal::ShortBuffer);
