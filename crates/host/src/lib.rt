@@ -2,9 +2,11 @@
 //! numbers and bytes. `c/cartridge_host.h` declares both.
 
 mod checking;
+mod examples;
 mod writing;
 
 pub use checking::Checked;
 pub use checking::cartridge_check_packet;
+pub use examples::worked_examples;
 pub use writing::Written;
 pub use writing::cartridge_write_request;
