@@ -10,9 +10,10 @@ use Rattle.statuses.specs.declared.Status.{Status}
 use Rattle.statuses.specs.declared.Status.the-variants as status
 use Rattle.statuses.specs.Statuses.{statusNumber}
 use Rattle.requests.specs.declared.bodies.Request.{Request}
+use Rattle.requests.specs.declared.inspecting.Outline.{Outline}
 use Rattle.requests.specs.declared.refusals.BadPacket.{BadPacket}
-use Rattle.requests.specs.Bodies.{commandIn}
-use Rattle.requests.specs.Commands.{commandNumber}
+use Rattle.requests.specs.declared.refusals.Cause.{Cause}
+use Rattle.requests.specs.Inspecting.{outlined}
 use Rattle.requests.specs.Refusals.{causeStatus, causeDetail}
 use Rattle.host.specs.declared.checking.Checked.{Checked}
 
@@ -29,14 +30,14 @@ telling s d n c =
       command = valueOr c 0;
     }
 
--- A request is told by 0, with its number and the number of its command.
-abbrev pub accepted : Request → Checked
-accepted r = telling status.Success None (Some (r .number)) (Some (commandNumber (commandIn (r .body))))
+-- By the fault: 0 where there is none, else the status of the cause, with the detail where there is one.
+abbrev pub toldBy : Result (Unit {0}) Cause → Option ℕ → Option ℕ → Checked
+toldBy (Ok u) n c = telling status.Success None n c
+toldBy (Err e) n c = telling (causeStatus e) (causeDetail e) n c
 
--- A refusal by its status, with the detail where there is one, and number and command where they could be read.
-abbrev pub refused : BadPacket → Checked
-refused e = telling (causeStatus (e .cause)) (causeDetail (e .cause)) (e .number) (e .command)
+abbrev pub told : Outline → Checked
+told o = toldBy (o .fault) (o .number) (o .command)
 
+-- Of a request, its number and the number of its command; of a refused packet, both where they could be read.
 abbrev pub toldOf : Result Request BadPacket → Checked
-toldOf (Ok r) = accepted r
-toldOf (Err e) = refused e
+toldOf r = told (outlined r)

@@ -1,11 +1,10 @@
 //! The check of a packet.
 
-ghost use Rattle.host.specs.Checking.{accepted, refused, toldOf};
+ghost use Rattle.host.specs.Checking.{told, toldOf};
 ghost use Rattle.requests.specs.Reading.{requestIn};
 ghost use mathlib.Core.Path.{_≡_};
-use requests::BadPacket;
-use requests::Request;
-use requests::read;
+use requests::Outline;
+use requests::inspect;
 use statuses::Status;
 
 /// What C is told of a packet. A value that is not there is 0. The order of the fields leaves no
@@ -22,32 +21,21 @@ pub struct Checked {
     pub command: u8,
 }
 
-fn tell_request(request: Request) -> Checked
-    ensures { λ r. ⌜ r ≡ accepted request ⌝ }
+fn tell(outline: Outline) -> Checked
+    ensures { λ r. ⌜ r ≡ told outline ⌝ }
 {
+    let (status, detail) = match outline.fault {
+        Ok(()) => (Status::Success, None),
+        Err(cause) => (cause.status(), cause.detail()),
+    };
     Checked {
-        status: Status::Success.code(),
-        has_detail: false,
-        detail: 0,
-        has_number: true,
-        number: request.number,
-        has_command: true,
-        command: request.body.command().code(),
-    }
-}
-
-fn tell_refusal(bad: BadPacket) -> Checked
-    ensures { λ r. ⌜ r ≡ refused bad ⌝ }
-{
-    let detail = bad.cause.detail();
-    Checked {
-        status: bad.cause.status().code(),
+        status: status.code(),
         has_detail: detail.is_some(),
         detail: detail.unwrap_or(0),
-        has_number: bad.number.is_some(),
-        number: bad.number.unwrap_or(0),
-        has_command: bad.command.is_some(),
-        command: bad.command.unwrap_or(0),
+        has_number: outline.number.is_some(),
+        number: outline.number.unwrap_or(0),
+        has_command: outline.command.is_some(),
+        command: outline.command.unwrap_or(0),
     }
 }
 
@@ -56,8 +44,5 @@ fn tell_refusal(bad: BadPacket) -> Checked
 pub extern "C" fn cartridge_check_packet(packet: &[u8]) -> Checked
     ensures { λ r. ⌜ r ≡ toldOf (requestIn (now (packet .entry))) ⌝ }
 {
-    match read(packet) {
-        Ok(request) => tell_request(request),
-        Err(bad) => tell_refusal(bad),
-    }
+    tell(inspect(packet))
 }

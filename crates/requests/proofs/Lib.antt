@@ -3,3 +3,4 @@ pub mod Sent
 pub mod Back
 pub mod Forth
 pub mod Lengths
+pub mod Outlines

@@ -15,7 +15,7 @@ use bytes::has;
 use labels::Label;
 
 /// The command of the field.
-fn command_in(field: Option<u8>) -> Result<Command, Cause>
+pub(crate) fn command_in(field: Option<u8>) -> Result<Command, Cause>
     ensures { λ r. ⌜ r ≡ commandField field ⌝ }
 {
     let Some(code) = field else {
@@ -80,7 +80,7 @@ fn lowest_wrong(command: Command, f: Fields) -> Option<u8>
 }
 
 /// Whether the command takes just these fields.
-fn check_bits(command: Command, f: Fields) -> Result<(), Cause>
+pub(crate) fn check_bits(command: Command, f: Fields) -> Result<(), Cause>
     ensures { λ r. ⌜ r ≡ bitsRight command f ⌝ }
 {
     match lowest_wrong(command, f) {
@@ -90,7 +90,7 @@ fn check_bits(command: Command, f: Fields) -> Result<(), Cause>
 }
 
 /// The label of the field, where it is there.
-fn label_in(field: Option<[u8; 6]>) -> Result<Option<Label>, Cause>
+pub(crate) fn label_in(field: Option<[u8; 6]>) -> Result<Option<Label>, Cause>
     ensures { λ r. ⌜ r ≡ labelField field ⌝ }
 {
     let Some(chars) = field else {
@@ -103,7 +103,7 @@ fn label_in(field: Option<[u8; 6]>) -> Result<Option<Label>, Cause>
 }
 
 /// The drive setting of the field, where it is there.
-fn setting_in(field: Option<u8>) -> Result<Option<DriveSetting>, Cause>
+pub(crate) fn setting_in(field: Option<u8>) -> Result<Option<DriveSetting>, Cause>
     ensures { λ r. ⌜ r ≡ settingField field ⌝ }
 {
     let Some(code) = field else {

@@ -8,7 +8,7 @@ ghost use Rattle.std.specs.Vec.{made};
 ghost use lib.ListN.{drop, length, take};
 ghost use mathlib.Core.List.{_++_};
 ghost use mathlib.Core.Path.{_≡_};
-use crate::checking::check_fields;
+use crate::inspecting::pass_fields;
 use crate::refusals::Cause;
 use crate::taking::Fields;
 use crate::values::Values;
@@ -48,8 +48,8 @@ fn why_not(room: usize, fields: Fields) -> Option<Unwritable>
     if room < ROOM {
         return Some(Unwritable::SmallBuffer);
     }
-    match check_fields(fields) {
-        Ok(_) => None,
+    match pass_fields(fields) {
+        Ok(()) => None,
         Err(cause) => Some(Unwritable::BadFields { cause }),
     }
 }
