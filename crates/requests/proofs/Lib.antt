@@ -4,3 +4,4 @@ pub mod Back
 pub mod Forth
 pub mod Lengths
 pub mod Outlines
+pub mod Masks

@@ -1,5 +1,5 @@
 -- What is told of a packet without its request is what its request would tell.
-use mathlib.Core.Path.{_≡_, refl, ap, sym, _∙_}
+use mathlib.Core.Path.{_≡_, refl, ap, sym, subst, _∙_}
 use mathlib.Core.Bool.{Bool, true, false, cond}
 use mathlib.Core.List.{List}
 use Prim.Native.Nat.{ℕ}
@@ -9,6 +9,7 @@ use Rattle.std.specs.declared.option.Option.{Option}
 use Rattle.std.specs.declared.option.Option.the-variants.{Some, None}
 use Rattle.std.specs.declared.result.Result.{Result}
 use Rattle.std.specs.declared.result.Result.the-variants.{Ok, Err}
+use Rattle.bytes.specs.Taking.{Bytes}
 use Rattle.labels.specs.declared.Label.{Label}
 use Rattle.requests.specs.declared.commands.Command.{Command}
 use Rattle.requests.specs.declared.commands.Command.the-variants as command
@@ -26,8 +27,9 @@ use Rattle.requests.specs.Commands.{commandNumber}
 use Rattle.requests.specs.Checking.{wrongAt, bodyOf, checked}
 use Rattle.requests.specs.Inspecting.{passed, outlined}
 use Rattle.requests.specs.Reading.{judgedBy, judged, answeredBy, answered, requestIn}
-use Rattle.requests.specs.Taking.{taken}
+use Rattle.requests.specs.Taking.{taken, Stands}
 use Rattle.requests.specs.Writing.{badFields, unwritable}
+use Rattle.requests.proofs.Forth.{taken-makes}
 use Rattle.requests.proofs.Passed as pass
 
 -- The body of a command is of that command.
@@ -91,3 +93,7 @@ refused-by (Err d) e h = let p : d ≡ e = cc in ap (λ (k : Cause). Some (BadFi
 
 pub not-written : (n : ℕ) (f : Fields) (e : Cause) → ltb n 15 ≡ false → passed (checked f) ≡ Err e → Some (BadFields e) ≡ unwritable n f
 not-written n f e l h = sym (ap (λ (b : Bool). cond b (Some SmallBuffer) (badFields (checked f))) l ∙ refused-by (checked f) e h)
+
+-- A packet of the right length has each field exactly where its bit stands.
+pub stands-exact : (p : List ℕ) (t : Taken) → Bytes p → t ≡ taken p → t .ending ≡ Exact → Stands (t .fields)
+stands-exact p t b a e = subst (λ (x : Taken). Stands (x .fields)) (sym a) (taken-makes p b (ap (λ (x : Taken). x .ending) (sym a) ∙ e) .stands)

@@ -39,7 +39,7 @@ fn wrong_at(command: Command, worth: u8, stands: bool) -> bool
 }
 
 /// Whether there is an option other than 1.
-fn wrong_option(option: Option<u8>) -> bool
+pub(crate) fn wrong_option(option: Option<u8>) -> bool
     ensures { λ r. ⌜ r ≡ wrongOption option ⌝ }
 {
     match option {
@@ -80,7 +80,7 @@ fn lowest_wrong(command: Command, f: Fields) -> Option<u8>
 }
 
 /// Whether the command takes just these fields.
-pub(crate) fn check_bits(command: Command, f: Fields) -> Result<(), Cause>
+fn check_bits(command: Command, f: Fields) -> Result<(), Cause>
     ensures { λ r. ⌜ r ≡ bitsRight command f ⌝ }
 {
     match lowest_wrong(command, f) {

@@ -21,7 +21,6 @@ pub use commands::Command;
 pub use examples::worked_packets;
 pub use inspecting::Outline;
 pub use inspecting::inspect;
-pub use inspecting::pass_fields;
 pub use reading::read;
 pub use refusals::BadPacket;
 pub use refusals::Cause;

@@ -2,6 +2,7 @@
 
 ghost use Prim.Native.Nat.{_≤_};
 ghost use Rattle.requests.specs.RoundTrips.{ReadsBack};
+ghost use Rattle.requests.specs.Taking.{Stands};
 ghost use Rattle.requests.specs.Values.{fieldsOf};
 ghost use Rattle.requests.specs.Writing.{answer, left, packetOf, unwritable, unwritableStatus};
 ghost use Rattle.std.specs.Vec.{made};
@@ -43,6 +44,7 @@ impl Unwritable {
 
 /// Why the fields are not written into a buffer of `room` bytes.
 fn why_not(room: usize, fields: Fields) -> Option<Unwritable>
+    requires { ⌜ Stands fields ⌝ }
     ensures { λ r. ⌜ r ≡ unwritable room fields ⌝ }
 {
     if room < ROOM {
