@@ -1,20 +1,15 @@
 -- The wrong bits of a map by masks: every byte, for every command, by computing.
 use mathlib.Core.Path.{_≡_, refl, ap, sym, _∙_}
 use mathlib.Core.Bool.{Bool, true, false, cond}
-use mathlib.Core.Logic.{_⊎_, inl, inr}
-use Prim.Native.Nat.{ℕ, zero, suc, _<_, _≤_}
+use Prim.Native.Nat.{ℕ, zero, suc, _<_}
 use native.Mathlib.Omega.{arith}
 use lib.Count.{trailingZeros}
 use lib.Dec.{eqb}
 use borrow.Author.Tests.{eqb-true, eqb-false}
-use Rattle.std.specs.Options.{isSome}
 use Rattle.std.specs.declared.option.Option.{Option}
 use Rattle.std.specs.declared.option.Option.the-variants.{Some, None}
 use Rattle.requests.specs.declared.commands.Command.{Command}
 use Rattle.requests.specs.declared.commands.Command.the-variants as command
-use Rattle.requests.specs.declared.taking.Fields.{Fields}
-use Rattle.requests.specs.Checking.{wrongOption, lowestWrong}
-use Rattle.requests.specs.Taking.{Stands}
 use Rattle.requests.specs.Inspecting.{lowestIn, wrongMask}
 use Rattle.requests.proofs.Passed.{true-false}
 
@@ -83,15 +78,3 @@ none-wrong c m bad w l e z = ap lowestOf (sym z ∙ e) ∙ mask-lowest c m bad l
 
 pub some-wrong : (c : Command) (m : ℕ) (bad : Bool) (w k : ℕ) → m < 256 → w ≡ wrongMask c m bad → eqb w 0 ≡ false → k ≡ trailingZeros 8 w → Some k ≡ lowestIn c m bad
 some-wrong c m bad w k l e z t = ap (λ (x : ℕ). Some x) t ∙ ap (λ (b : Bool). cond b None (Some (trailingZeros 8 w))) (sym z) ∙ ap lowestOf e ∙ mask-lowest c m bad l
-
--- Where each field is there exactly if its bit stands, the map alone tells the lowest wrong bit.
-pub by-map : (c : Command) (f : Fields) → Stands f → lowestIn c (f .map) (wrongOption (f .option)) ≡ lowestWrong c f
-by-map c f s =
-    let a = s .number in
-    let b = s .command in
-    let o = s .option in
-    let l = s .label in
-    let p = s .place in
-    let t = s .target in
-    let d = s .state in
-    cc

@@ -1,5 +1,5 @@
 //! What is told of a packet whose request nobody asks for. No body is made, which would take as
-//! long as all the tests.
+//! long as all else.
 
 ghost use Rattle.requests.specs.Checking.{bitsRight, checked};
 ghost use Rattle.requests.specs.Inspecting.{lowestIn, outlined, passed, wrongMask};
@@ -30,7 +30,8 @@ pub struct Outline {
 fn wrong_mask(command: Command, map: u8, bad: bool) -> u8
     ensures { λ r. ⌜ r ≡ wrongMask command map bad ⌝ }
 {
-    let others = (map ^ command.needed()) & (255 - command.permitted());
+    let bits = command.bits();
+    let others = (map ^ bits.needed) & (255 - bits.permitted);
     if bad { others | 4 } else { others }
 }
 
@@ -56,8 +57,9 @@ fn pass_bits(command: Command, f: Fields) -> Result<(), Cause>
     }
 }
 
-/// Whether the fields make a request, or the cause for which they make none.
-pub(crate) fn pass_fields(f: Fields) -> Result<(), Cause>
+/// Whether the fields make a request, or the cause for which they make none. `WRITING` is there to
+/// give each caller an instance of its own, which the compiler then puts in place of the call.
+pub(crate) fn pass_fields<const WRITING: bool>(f: Fields) -> Result<(), Cause>
     requires { ⌜ Stands f ⌝ }
     ensures { λ r. ⌜ r ≡ passed (checked f) ⌝ }
 {
@@ -75,7 +77,7 @@ fn pass(taken: Taken) -> Result<(), Cause>
     match taken.ending {
         Ending::Short => Err(Cause::Short),
         Ending::Long => Err(Cause::Long),
-        Ending::Exact => pass_fields(taken.fields),
+        Ending::Exact => pass_fields::<false>(taken.fields),
     }
 }
 

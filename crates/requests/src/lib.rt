@@ -17,6 +17,7 @@ pub use bodies::DriveSetting;
 pub use bodies::Mark;
 pub use bodies::Request;
 pub use checking::check_fields;
+pub use commands::Bits;
 pub use commands::Command;
 pub use examples::worked_packets;
 pub use inspecting::Outline;

@@ -50,7 +50,7 @@ fn why_not(room: usize, fields: Fields) -> Option<Unwritable>
     if room < ROOM {
         return Some(Unwritable::SmallBuffer);
     }
-    match pass_fields(fields) {
+    match pass_fields::<true>(fields) {
         Ok(()) => None,
         Err(cause) => Some(Unwritable::BadFields { cause }),
     }
