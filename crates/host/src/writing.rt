@@ -1,6 +1,6 @@
 //! The writer of request packets.
 
-ghost use Rattle.host.specs.Writing.{toldOf, valuesOf};
+ghost use Rattle.host.specs.Writing.{Passes, toldOf, valuesOf};
 ghost use Rattle.requests.specs.Values.{fieldsOf};
 ghost use Rattle.requests.specs.Writing.{answer, left};
 ghost use lib.ListN.{length};
@@ -49,6 +49,7 @@ pub extern "C" fn cartridge_write_request(
 ) -> Written
     ensures answer { λ r. ⌜ r ≡ toldOf (answer (length (now (buffer .entry))) (fieldsOf map (valuesOf number command option (now (label .entry)) place target «drive_state»))) ⌝ }
     ensures after { λ _. ⌜ now (buffer .exit) ≡ left (fieldsOf map (valuesOf number command option (now (label .entry)) place target «drive_state»)) (now (buffer .entry)) ⌝ }
+    ensures passes { λ r. ⌜ Passes r (now (buffer .exit)) number command ⌝ }
 {
     let values = Values {
         number,
