@@ -23,14 +23,14 @@ use Rattle.requests.specs.declared.taking.Fields.{Fields}
 use Rattle.requests.specs.declared.taking.Taken.{Taken}
 use Rattle.requests.specs.declared.values.Values.{Values}
 use Rattle.requests.specs.declared.writing.Unwritable.{Unwritable}
-use Rattle.requests.specs.declared.writing.Unwritable.the-variants.{SmallBuffer}
-use Rattle.requests.specs.Taking.{mapAlone, withNumber, withCommand, withOption, withLabel, withPlace, withTarget, withState, next, endingOf, fromState, fromTarget, fromPlace, fromLabel, fromOption, fromCommand, taken}
+use Rattle.requests.specs.declared.writing.Unwritable.the-variants.{SmallBuffer, BadFields}
+use Rattle.requests.specs.Taking.{mapAlone, withNumber, withCommand, withOption, withLabel, withPlace, withTarget, withState, next, endingOf, fromState, fromTarget, fromPlace, fromLabel, fromOption, fromCommand, fromNumber, taken, Stands}
 use Rattle.requests.specs.Checking.{checked}
 use Rattle.requests.specs.Reading.{answeredBy, answered, requestIn}
 use Rattle.requests.specs.Values.{when, fieldsOf}
 use Rattle.requests.specs.Writing.{packetOf, badFields, unwritable, answerBy, answer, leftBy, left}
 use Rattle.requests.specs.RoundTrips.{ReadsBack}
-use Rattle.requests.proofs.Sent.{Stands, when-there, fields-sent}
+use Rattle.requests.proofs.Sent.{when-there, fields-sent}
 
 -- A field whose bit stands is cut off as it was put.
 on : {X : Type 0} (cut : Bool → List ℕ → Option (Option X × List ℕ)) (o : Option X) (b : Bool) (bs cs : List ℕ) (f : Fields) (k : Option X → List ℕ → Taken)

@@ -24,13 +24,13 @@ use Rattle.requests.specs.declared.taking.Fields.{Fields}
 use Rattle.requests.specs.declared.taking.Taken.{Taken}
 use Rattle.requests.specs.declared.writing.Unwritable.{Unwritable}
 use Rattle.requests.specs.declared.writing.Unwritable.the-variants.{SmallBuffer}
-use Rattle.requests.specs.Taking.{held, mapAlone, withNumber, withCommand, withOption, withLabel, withPlace, withTarget, withState, next, endingOf, fromState, fromTarget, fromPlace, fromLabel, fromOption, fromCommand, fromNumber, taken}
+use Rattle.requests.specs.Taking.{held, mapAlone, withNumber, withCommand, withOption, withLabel, withPlace, withTarget, withState, next, endingOf, fromState, fromTarget, fromPlace, fromLabel, fromOption, fromCommand, fromNumber, taken, Stands}
 use Rattle.requests.specs.Checking.{checked}
 use Rattle.requests.specs.Reading.{judgedBy, answeredBy, requestIn}
 use Rattle.requests.specs.Values.{fieldsFor}
 use Rattle.requests.specs.Writing.{packetOf, badFields, unwritable, answerBy, answer, leftBy, left}
 use Rattle.requests.specs.RoundTrips.{WritesBack}
-use Rattle.requests.proofs.Sent.{Stands, fields-sent}
+use Rattle.requests.proofs.Sent.{fields-sent}
 
 short-exact : Short ≡ Exact → ⊥
 short-exact e = let z : _≡_ {A = ℕ} 0 1 = cc in omega arith

@@ -3,3 +3,5 @@ pub mod Sent
 pub mod Back
 pub mod Forth
 pub mod Lengths
+pub mod Outlines
+pub mod Masks

@@ -24,21 +24,10 @@ use Rattle.requests.specs.declared.refusals.Cause.{Cause}
 use Rattle.requests.specs.declared.taking.Fields.{Fields}
 use Rattle.requests.specs.Commands.{row, commandNumber}
 use Rattle.requests.specs.Bodies.{settingNumber}
-use Rattle.requests.specs.Taking.{held}
-use Rattle.requests.specs.Checking.{wrongAt, wrongOption, noLabel, bodyOf, checked}
-use Rattle.requests.specs.Values.{when, fieldsFor}
-use Rattle.requests.proofs.Passed.{true-false, passed, all-right}
-
--- Each field is there exactly where its bit stands, and the map is a byte.
-pub record Stands (f : Fields) : Type 0 where
-  pub number : isSome (f .number) ≡ hasBit (f .map) 1
-  pub command : isSome (f .command) ≡ hasBit (f .map) 2
-  pub option : isSome (f .option) ≡ hasBit (f .map) 4
-  pub label : isSome (f .label) ≡ hasBit (f .map) 8
-  pub place : isSome (f .place) ≡ hasBit (f .map) 16
-  pub target : isSome (f .target) ≡ hasBit (f .map) 32
-  pub state : isSome (f .«drive_state») ≡ hasBit (f .map) 64
-  pub byte : f .map < 256
+use Rattle.requests.specs.Taking.{held, Stands}
+use Rattle.requests.specs.Checking.{wrongAt, wrongOption, noLabel, bodyOf, checked, madeOf}
+use Rattle.requests.specs.Values.{when, fieldsOf, fieldsFor}
+use Rattle.requests.proofs.Passed.{true-false, passed, AllRight, all-right}
 
 -- A field as a command takes it: there if it is needed, as it is if it is permitted, else not there.
 abbrev kept : {X : Type 0} → Command → ℕ → Option X → X → Option X

@@ -4,6 +4,7 @@ pub mod Refusals
 pub mod Taking
 pub mod Checking
 pub mod Reading
+pub mod Inspecting
 pub mod Values
 pub mod Writing
 pub mod RoundTrips

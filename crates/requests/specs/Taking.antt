@@ -1,6 +1,8 @@
 -- The fields of a packet.
 use mathlib.Core.List.{List, [], _∷_}
-use Prim.Native.Nat.{ℕ}
+use mathlib.Core.Path.{_≡_}
+use Prim.Native.Nat.{ℕ, _<_}
+use Rattle.std.specs.Options.{isSome}
 use Rattle.std.specs.declared.option.Option.{Option}
 use Rattle.std.specs.declared.option.Option.the-variants.{Some, None}
 use Rattle.bytes.specs.Taking.{hasBit, oneOff, twoOff, sixOff}
@@ -85,3 +87,14 @@ fromNumber f bs = next (twoOff (hasBit (f .map) 1) bs) f (λ n. fromCommand (wit
 abbrev pub taken : List ℕ → Taken
 taken [] = shortOf (mapAlone 0)
 taken (m ∷ bs) = fromNumber (mapAlone m) bs
+
+-- Each field is there exactly where its bit stands, and the map is a byte.
+pub record Stands (f : Fields) : Type 0 where
+  pub number : isSome (f .number) ≡ hasBit (f .map) 1
+  pub command : isSome (f .command) ≡ hasBit (f .map) 2
+  pub option : isSome (f .option) ≡ hasBit (f .map) 4
+  pub label : isSome (f .label) ≡ hasBit (f .map) 8
+  pub place : isSome (f .place) ≡ hasBit (f .map) 16
+  pub target : isSome (f .target) ≡ hasBit (f .map) 32
+  pub state : isSome (f .«drive_state») ≡ hasBit (f .map) 64
+  pub byte : f .map < 256

@@ -15,7 +15,7 @@ use bytes::has;
 use labels::Label;
 
 /// The command of the field.
-fn command_in(field: Option<u8>) -> Result<Command, Cause>
+pub(crate) fn command_in(field: Option<u8>) -> Result<Command, Cause>
     ensures { λ r. ⌜ r ≡ commandField field ⌝ }
 {
     let Some(code) = field else {
@@ -39,7 +39,7 @@ fn wrong_at(command: Command, worth: u8, stands: bool) -> bool
 }
 
 /// Whether there is an option other than 1.
-fn wrong_option(option: Option<u8>) -> bool
+pub(crate) fn wrong_option(option: Option<u8>) -> bool
     ensures { λ r. ⌜ r ≡ wrongOption option ⌝ }
 {
     match option {
@@ -90,7 +90,7 @@ fn check_bits(command: Command, f: Fields) -> Result<(), Cause>
 }
 
 /// The label of the field, where it is there.
-fn label_in(field: Option<[u8; 6]>) -> Result<Option<Label>, Cause>
+pub(crate) fn label_in(field: Option<[u8; 6]>) -> Result<Option<Label>, Cause>
     ensures { λ r. ⌜ r ≡ labelField field ⌝ }
 {
     let Some(chars) = field else {
@@ -103,7 +103,7 @@ fn label_in(field: Option<[u8; 6]>) -> Result<Option<Label>, Cause>
 }
 
 /// The drive setting of the field, where it is there.
-fn setting_in(field: Option<u8>) -> Result<Option<DriveSetting>, Cause>
+pub(crate) fn setting_in(field: Option<u8>) -> Result<Option<DriveSetting>, Cause>
     ensures { λ r. ⌜ r ≡ settingField field ⌝ }
 {
     let Some(code) = field else {

@@ -17,6 +17,13 @@ pub enum Command {
     Vary,
 }
 
+/// The map of the bits that a command needs, and of those that it may have besides.
+#[derive(Clone, Copy)]
+pub struct Bits {
+    pub needed: u8,
+    pub permitted: u8,
+}
+
 impl Command {
     /// The number that stands for the command in a packet.
     pub fn code(self) -> u8
@@ -53,31 +60,36 @@ impl Command {
         }
     }
 
+    /// What the command takes: one table, so that one look tells both maps.
+    pub fn bits(self) -> Bits
+        ensures needed { λ r. ⌜ r .needed ≡ row self .needed ⌝ }
+        ensures permitted { λ r. ⌜ r .permitted ≡ row self .permitted ⌝ }
+    {
+        let (needed, permitted) = match self {
+            Command::Cancel => (1 + 2 + 32, 0),
+            Command::Dismount => (1 + 2 + 8 + 16, 4),
+            Command::Eject => (1 + 2 + 8, 0),
+            Command::Enter => (1 + 2, 0),
+            Command::Idle => (1 + 2, 4),
+            Command::Mount => (1 + 2 + 8 + 16, 0),
+            Command::Query => (1 + 2, 8),
+            Command::Start => (1 + 2, 0),
+            Command::Vary => (1 + 2 + 16 + 64, 0),
+        };
+        Bits { needed, permitted }
+    }
+
     /// The map of the bits that the command needs.
     pub fn needed(self) -> u8
         ensures { λ r. ⌜ r ≡ row self .needed ⌝ }
     {
-        match self {
-            Command::Cancel => 1 + 2 + 32,
-            Command::Dismount => 1 + 2 + 8 + 16,
-            Command::Eject => 1 + 2 + 8,
-            Command::Enter => 1 + 2,
-            Command::Idle => 1 + 2,
-            Command::Mount => 1 + 2 + 8 + 16,
-            Command::Query => 1 + 2,
-            Command::Start => 1 + 2,
-            Command::Vary => 1 + 2 + 16 + 64,
-        }
+        self.bits().needed
     }
 
     /// The map of the bits that the command may have besides.
     pub fn permitted(self) -> u8
         ensures { λ r. ⌜ r ≡ row self .permitted ⌝ }
     {
-        match self {
-            Command::Dismount | Command::Idle => 4,
-            Command::Query => 8,
-            _ => 0,
-        }
+        self.bits().permitted
     }
 }

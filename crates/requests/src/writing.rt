@@ -2,13 +2,14 @@
 
 ghost use Prim.Native.Nat.{_≤_};
 ghost use Rattle.requests.specs.RoundTrips.{ReadsBack};
+ghost use Rattle.requests.specs.Taking.{Stands};
 ghost use Rattle.requests.specs.Values.{fieldsOf};
 ghost use Rattle.requests.specs.Writing.{answer, left, packetOf, unwritable, unwritableStatus};
 ghost use Rattle.std.specs.Vec.{made};
 ghost use lib.ListN.{drop, length, take};
 ghost use mathlib.Core.List.{_++_};
 ghost use mathlib.Core.Path.{_≡_};
-use crate::checking::check_fields;
+use crate::inspecting::pass_fields;
 use crate::refusals::Cause;
 use crate::taking::Fields;
 use crate::values::Values;
@@ -43,13 +44,14 @@ impl Unwritable {
 
 /// Why the fields are not written into a buffer of `room` bytes.
 fn why_not(room: usize, fields: Fields) -> Option<Unwritable>
+    requires { ⌜ Stands fields ⌝ }
     ensures { λ r. ⌜ r ≡ unwritable room fields ⌝ }
 {
     if room < ROOM {
         return Some(Unwritable::SmallBuffer);
     }
-    match check_fields(fields) {
-        Ok(_) => None,
+    match pass_fields::<true>(fields) {
+        Ok(()) => None,
         Err(cause) => Some(Unwritable::BadFields { cause }),
     }
 }
