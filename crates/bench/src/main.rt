@@ -1,6 +1,8 @@
 //! The bench session: a new server over a small bay is started, a cartridge is entered, and it is mounted.
 //! Each response is printed in hexadecimal, one a line.
 
+#![tactic(auto)]
+
 ghost use Rattle.std.specs.Prelude.{◌≤◌};
 
 use anyhow::anyhow;

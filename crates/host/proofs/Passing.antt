@@ -12,7 +12,7 @@ use Rattle.requests.specs.declared.taking.Fields.{Fields}
 use Rattle.requests.specs.declared.values.Values.{Values}
 use Rattle.requests.specs.declared.writing.Unwritable.{Unwritable}
 use Rattle.requests.specs.declared.writing.Unwritable.TheVariants.{SmallBuffer, BadFields}
-use Rattle.bytes.specs.Taking.{has_bit}
+use Rattle.byte_fields.specs.Taking.{has_bit}
 use Rattle.requests.specs.Bodies.{command_in}
 use Rattle.requests.specs.Commands.{command_number}
 use Rattle.requests.specs.Reading.{request_in}

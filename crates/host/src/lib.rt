@@ -1,6 +1,8 @@
 //! What hosts call from C: a check of a packet's bytes, and the writer of request packets, on
 //! numbers and bytes. `c/cartridge_host.h` declares both.
 
+#![tactic(auto)]
+
 mod checking;
 mod examples;
 mod writing;

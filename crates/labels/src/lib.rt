@@ -2,8 +2,10 @@
 //! number is one more than the label read in base 36. One number more stands for any cartridge
 //! whose label cannot be read, and 0 for no cartridge.
 
+#![tactic(auto)]
+
 ghost use Rattle.labels.specs.Characters.{all_right};
-ghost use Rattle.std.specs.Prelude.{◌≡◌, true, Decides};
+ghost use Rattle.std.specs.Prelude.{◌≡◌, true, bytes_eq, Decides};
 ghost use Rattle.std.specs.Cmp.Rules.{comparing};
 ghost use Rattle.std.proofs.Common.{rules, arith};
 ghost use Rattle.std.specs.Cmp as Keys;
@@ -34,11 +36,14 @@ pub struct Label {
 
 /// A derived comparison would promise nothing of the characters.
 impl PartialEq for Label {
-    ghost equals = { λ x y r. Decides r (x ≡ y) };
+    ghost eq = { λ x y. bytes_eq x.chars y.chars };
 
-    ghost laws = { Keys.partial_equiv_from_equiv (first_of (Prim.search (comparing, rules), Prim.grind (arith, Self.row.coded.inj))) };
+    ghost laws = { Prim.search (comparing, rules) };
 
-    fn eq(&self, other: &Label) -> bool {
+    fn eq(&self, other: &Label) -> bool
+        ensures value { result ≡ bytes_eq self.now.chars other.now.chars }
+        ensures decides { Decides result (self.now ≡ other.now) }
+    {
         self.chars == other.chars
     }
 }

@@ -1,5 +1,7 @@
 //! The records of a library: its state, its drives, its queues, and the request at work.
 
+#![tactic(auto)]
+
 pub mod core;
 pub mod drive;
 pub mod entries;

@@ -1,9 +1,9 @@
 -- A packet of fields is taken apart into these fields again, and so what is written reads back.
 use Rattle.std.proofs.Common.{◌≡◌, ℕ, ◌<◌, ◌≤◌, Bool, true, false, cond, ltb, List, [], ◌++◌, length, take, drop, is_some, Some, None, Ok, Err, Option, Result, sym, refl, ap, ◌∙◌, append-nil, arith, ltb-false}
 use Rattle.std.proofs.lemmas.List.{take_at}
-use Rattle.bytes.specs.Taking.{has_bit, one_off, two_off, six_off}
-use Rattle.bytes.specs.Putting.{one_bytes, two_bytes, six_bytes}
-use Rattle.bytes.proofs.Back.{Six, one_back, two_back, six_back}
+use Rattle.byte_fields.specs.Taking.{has_bit, one_off, two_off, six_off}
+use Rattle.byte_fields.specs.Putting.{one_bytes, two_bytes, six_bytes}
+use Rattle.byte_fields.proofs.Back.{Six, one_back, two_back, six_back}
 use Rattle.requests.specs.declared.bodies.Request.{Request}
 use Rattle.requests.specs.declared.refusals.Cause.{Cause}
 use Rattle.requests.specs.declared.taking.Ending.TheVariants.{Exact}

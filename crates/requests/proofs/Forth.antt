@@ -1,8 +1,8 @@
 -- The fields that a packet of the right length is taken apart into make that packet again, and so what reads is what is written.
 use Rattle.std.proofs.Common.{◌≡◌, ℕ, ◌<◌, ◌≤◌, Bool, false, cond, ltb, List, [], ◌∷◌, ◌++◌, length, drop, IfOk, Some, None, Ok, Err, Option, Result, sym, refl, ap, ◌∙◌, append-nil, arith, le-ltb}
-use Rattle.bytes.specs.Taking.{has_bit, Bytes}
-use Rattle.bytes.specs.Putting.{one_bytes, two_bytes, six_bytes}
-use Rattle.bytes.proofs.Forth.{Cut, one_forth, two_forth, six_forth}
+use Rattle.byte_fields.specs.Taking.{has_bit, Bytes}
+use Rattle.byte_fields.specs.Putting.{one_bytes, two_bytes, six_bytes}
+use Rattle.byte_fields.proofs.Forth.{Cut, one_forth, two_forth, six_forth}
 use Rattle.requests.specs.declared.bodies.Request.{Request}
 use Rattle.requests.specs.declared.refusals.BadPacket.{BadPacket}
 use Rattle.requests.specs.declared.refusals.Cause.{Cause}

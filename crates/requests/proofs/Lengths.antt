@@ -1,6 +1,6 @@
 -- Status 1 and 2 by the packet's length alone.
 use Rattle.std.proofs.Common.{◌≡◌, ℕ, ◌+◌, ◌<◌, ◌≤◌, Bool, true, false, cond, ltb, List, [], ◌∷◌, length, Some, None, Ok, Err, Option, Result, sym, refl, ap, ◌∙◌, subst, add-zero, arith, ltb-false, ltb-true, le-ltb, lt-ltb}
-use Rattle.bytes.specs.Taking.{has_bit, one_off, two_off, six_off}
+use Rattle.byte_fields.specs.Taking.{has_bit, one_off, two_off, six_off}
 use Rattle.statuses.specs.Statuses.{status_number}
 use Rattle.labels.specs.declared.Label.{Label}
 use Rattle.labels.specs.declared.WrongCharacter.{WrongCharacter}

@@ -1,7 +1,7 @@
 -- What fields that make a request have passed.
 use Rattle.std.proofs.Common.{◌≡◌, ℕ, suc, Bool, true, false, cond, eqb, List, [], ◌∷◌, is_some, Some, None, Ok, Err, Option, Result, sym, refl, ap, ◌∙◌, arith, eqb-true}
 use Rattle.std.specs.Option.{option_map}
-use Rattle.bytes.specs.Taking.{has_bit}
+use Rattle.byte_fields.specs.Taking.{has_bit}
 use Rattle.labels.specs.declared.Label.{Label}
 use Rattle.labels.specs.declared.WrongCharacter.{WrongCharacter}
 use Rattle.labels.specs.Labels.{labelled}

@@ -1,6 +1,6 @@
 -- A packet's length against what its map says.
 use Rattle.std.specs.Prelude.{◌≡◌, ℕ, ◌+◌, ◌<◌, Bool, cond, List, [], ◌∷◌, length, Ok, Err, Result}
-use Rattle.bytes.specs.Taking.{has_bit}
+use Rattle.byte_fields.specs.Taking.{has_bit}
 use Rattle.statuses.specs.declared.Status.TheVariants as status
 use Rattle.statuses.specs.Statuses.{status_number}
 use Rattle.requests.specs.declared.bodies.Request.{Request}

@@ -1,6 +1,6 @@
 -- The fields of a packet.
 use Rattle.std.specs.Prelude.{◌≡◌, ℕ, ◌<◌, List, [], ◌∷◌, is_some, Some, None, Option}
-use Rattle.bytes.specs.Taking.{has_bit, one_off, two_off, six_off}
+use Rattle.byte_fields.specs.Taking.{has_bit, one_off, two_off, six_off}
 use Rattle.requests.specs.declared.taking.Fields.{Fields}
 use Rattle.requests.specs.declared.taking.Taken.{Taken}
 use Rattle.requests.specs.declared.taking.Ending.{Ending}

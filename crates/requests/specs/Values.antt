@@ -1,7 +1,7 @@
 -- What a packet is written from.
 use Rattle.std.specs.Prelude.{ℕ, ◌+◌, Bool, true, false, cond, is_some, Some, None, Option}
 use Rattle.std.specs.Option.{unwrap_or}
-use Rattle.bytes.specs.Taking.{has_bit}
+use Rattle.byte_fields.specs.Taking.{has_bit}
 use Rattle.labels.specs.declared.Label.{Label}
 use Rattle.requests.specs.declared.bodies.Body.{Body}
 use Rattle.requests.specs.declared.bodies.Body.TheVariants as body

@@ -1,6 +1,6 @@
 -- The bytes of a packet, and what the writer leaves in a buffer.
 use Rattle.std.specs.Prelude.{ℕ, cond, List, ◌∷◌, ◌++◌, length, drop, Some, None, Ok, Err, Option, Result, nat_lt}
-use Rattle.bytes.specs.Putting.{one_bytes, two_bytes, six_bytes}
+use Rattle.byte_fields.specs.Putting.{one_bytes, two_bytes, six_bytes}
 use Rattle.statuses.specs.declared.Status.{Status}
 use Rattle.statuses.specs.declared.Status.TheVariants as status
 use Rattle.requests.specs.declared.bodies.Request.{Request}

@@ -7,7 +7,7 @@ use crate::bodies::{Body, DriveSetting, Mark, Request};
 use crate::commands::Command;
 use crate::refusals::Cause;
 use crate::taking::Fields;
-use bytes::has;
+use byte_fields::has;
 use labels::Label;
 
 /// The command of the field.

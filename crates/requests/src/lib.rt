@@ -1,6 +1,8 @@
 //! Request packets: what a request is, how a packet is read as one, why a packet is refused, and
 //! how a packet is written.
 
+#![tactic(auto)]
+
 mod bodies;
 mod checking;
 mod commands;

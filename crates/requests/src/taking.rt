@@ -4,7 +4,7 @@
 ghost use Rattle.requests.specs.Taking.{ending_of, from_command, from_label, from_number, from_option, from_place, from_state, from_target, map_alone, short_of, taken};
 ghost use Rattle.std.specs.Prelude.{◌≡◌};
 
-use bytes::{has, take_one, take_six, take_two};
+use byte_fields::{has, take_one, take_six, take_two};
 
 /// The map, and what was taken of the fields.
 #[derive(Clone, Copy)]

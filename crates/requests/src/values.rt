@@ -4,7 +4,7 @@ ghost use Rattle.requests.specs.Values.{fields_of, when};
 ghost use Rattle.std.specs.Prelude.{◌≡◌};
 
 use crate::taking::Fields;
-use bytes::has;
+use byte_fields::has;
 
 /// A value for each field.
 #[derive(Clone, Copy)]

@@ -10,7 +10,7 @@ use crate::inspecting::pass_fields;
 use crate::refusals::Cause;
 use crate::taking::Fields;
 use crate::values::{Values, fields_of};
-use bytes::{put, put_one, put_six, put_two};
+use byte_fields::{put, put_one, put_six, put_two};
 use statuses::Status;
 
 /// The length of the longest packet, a map and every field.

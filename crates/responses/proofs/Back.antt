@@ -1,9 +1,9 @@
 -- What is written reads as it was told.
 use Rattle.std.proofs.Common.{◌≡◌, ℕ, zero, suc, ◌≤◌, Bool, true, false, cond, eqb, leb, List, [], ◌∷◌, ◌++◌, map, length, take, drop, is_some, Some, None, Option, sym, refl, ap, ◌∙◌, append_assoc, append-nil, arith, length-append, eq-eqb, ne_eqb, le-leb}
 use Rattle.std.proofs.lemmas.List.{take_at, drop_at}
-use Rattle.bytes.specs.Taking.{has_bit, one_off, two_off}
-use Rattle.bytes.specs.Putting.{one_bytes, two_bytes}
-use Rattle.bytes.proofs.Back as field
+use Rattle.byte_fields.specs.Taking.{has_bit, one_off, two_off}
+use Rattle.byte_fields.specs.Putting.{one_bytes, two_bytes}
+use Rattle.byte_fields.proofs.Back as field
 use Rattle.labels.specs.Numbers.{unreadable_number}
 use Rattle.labels.specs.Labels.{six_for}
 use Rattle.labels.proofs.Sixes.{length_six, six_back}

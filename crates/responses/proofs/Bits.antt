@@ -2,7 +2,7 @@
 use Rattle.std.proofs.Common.{◌≡◌, ℕ, ◌+◌, ◌*◌, ◌/◌, ◌%◌, ◌<◌, ◌≤◌, Bool, true, false, cond, eqb, List, get_or, is_some, sym, refl, ap, ◌∙◌, mul-zero, mul-one, arith, eqb-true}
 use borrow.Author.Tests.{eqb-false}
 use Rattle.std.proofs.lemmas.Bool.Decides.{nat_tests}
-use Rattle.bytes.specs.Taking.{has_bit}
+use Rattle.byte_fields.specs.Taking.{has_bit}
 use Rattle.responses.specs.Responses.{Told}
 use Rattle.responses.specs.Inventories.{bit, byte_of}
 use Rattle.responses.specs.Writing.{flag, layer_byte, map_of}

@@ -1,8 +1,8 @@
 -- What reads is what is written.
 use Rattle.std.proofs.Common.{◌≡◌, ℕ, ◌<◌, ◌≤◌, false, ltb, List, [], ◌∷◌, ◌++◌, length, drop, Some, None, Ok, Option, sym, refl, ap, ◌∙◌, subst, append-nil, le-ltb}
-use Rattle.bytes.specs.Taking.{has_bit, Bytes}
-use Rattle.bytes.specs.Putting.{one_bytes, two_bytes}
-use Rattle.bytes.proofs.Forth.{none_some}
+use Rattle.byte_fields.specs.Taking.{has_bit, Bytes}
+use Rattle.byte_fields.specs.Putting.{one_bytes, two_bytes}
+use Rattle.byte_fields.proofs.Forth.{none_some}
 use Rattle.statuses.specs.Statuses.{status_number}
 use Rattle.responses.specs.declared.Entry.{Entry}
 use Rattle.responses.specs.declared.Response.{Response}

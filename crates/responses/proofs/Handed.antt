@@ -1,7 +1,7 @@
 -- What was handed on, from what came of it.
 use Rattle.std.proofs.Common.{◌≡◌, ℕ, zero, suc, ◌≤◌, Bool, true, false, cond, List, [], ◌∷◌, ◌++◌, length, take, is_some, Some, None, Option, sym, refl, ap, ◌∙◌, subst, arith}
-use Rattle.bytes.specs.Taking.{Bytes}
-use Rattle.bytes.proofs.Forth.{none_some, pair_eq}
+use Rattle.byte_fields.specs.Taking.{Bytes}
+use Rattle.byte_fields.proofs.Forth.{none_some, pair_eq}
 use Rattle.responses.specs.Responses.{count_of}
 use Rattle.responses.specs.Writing.{bytes_of}
 use Rattle.responses.specs.Reading.{after, given, consed, maybe}

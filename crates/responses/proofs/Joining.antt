@@ -1,6 +1,6 @@
 -- The fields of a response, written one behind another, are its bytes.
 use Rattle.std.proofs.Common.{◌≡◌, ℕ, ◌≤◌, Bool, true, false, cond, ltb, List, [], ◌∷◌, ◌++◌, Some, None, Option, refl, append_assoc, arith, ltb-false}
-use Rattle.bytes.specs.Putting.{one_bytes, two_bytes}
+use Rattle.byte_fields.specs.Putting.{one_bytes, two_bytes}
 use Rattle.statuses.specs.Statuses.{status_number}
 use Rattle.responses.specs.declared.writing.Unwritable.{Unwritable}
 use Rattle.responses.specs.Responses.{Told, kind_number, count_of}

@@ -1,7 +1,7 @@
 -- Six bytes read as a cartridge are those written for it.
 use Rattle.std.proofs.Common.{◌≡◌, ℕ, ◌≤◌, true, List, [], ◌∷◌, ◌++◌, length, Some, None, Option, sym, ap, ◌∙◌, subst}
-use Rattle.bytes.specs.Taking.{six_off}
-use Rattle.bytes.proofs.Forth.{none_some, pair_eq}
+use Rattle.byte_fields.specs.Taking.{six_off}
+use Rattle.byte_fields.proofs.Forth.{none_some, pair_eq}
 use Rattle.labels.specs.Labels.{six_for, number_of_six}
 use Rattle.labels.proofs.Sixes.{six_forth}
 use Rattle.responses.specs.Reading.{cartridge_from, cartridge_off}

@@ -1,7 +1,7 @@
 -- Entries that were read are those written.
 use Rattle.std.proofs.Common.{◌≡◌, ℕ, zero, suc, ◌≤◌, Bool, leb, List, [], ◌∷◌, ◌++◌, length, Some, Option, sym, refl, ap, ◌∙◌, append_assoc, arith, leb-true}
-use Rattle.bytes.specs.Taking.{Bytes}
-use Rattle.bytes.proofs.Forth.{none_some, pair_eq}
+use Rattle.byte_fields.specs.Taking.{Bytes}
+use Rattle.byte_fields.proofs.Forth.{none_some, pair_eq}
 use Rattle.labels.specs.Labels.{six_for}
 use Rattle.statuses.specs.Statuses.{status_number, status_of}
 use Rattle.statuses.proofs.Numbers.{number_of_status}

@@ -1,8 +1,8 @@
 -- The fields before the entries that were read are those written.
 use Rattle.std.proofs.Common.{◌≡◌, ℕ, Bool, true, false, cond, eqb, List, ◌∷◌, ◌++◌, is_some, Some, None, Option, sym, refl, ap, ◌∙◌, subst, arith, eqb-true}
-use Rattle.bytes.specs.Taking.{has_bit, one_off, two_off, Bytes}
-use Rattle.bytes.specs.Putting.{one_bytes, two_bytes}
-use Rattle.bytes.proofs.Forth.{none_some, pair_eq, Cut, one_forth, two_forth}
+use Rattle.byte_fields.specs.Taking.{has_bit, one_off, two_off, Bytes}
+use Rattle.byte_fields.specs.Putting.{one_bytes, two_bytes}
+use Rattle.byte_fields.proofs.Forth.{none_some, pair_eq, Cut, one_forth, two_forth}
 use Rattle.statuses.specs.declared.Status.{Status}
 use Rattle.statuses.specs.Statuses.{status_number}
 use Rattle.statuses.proofs.Numbers.{number_of_status}

@@ -1,8 +1,8 @@
 -- An inventory that was read is the one written.
 use Rattle.std.proofs.Common.{◌≡◌, ℕ, suc, ◌/◌, ◌%◌, ◌<◌, ◌≤◌, Bool, true, false, eqb, leb, List, [], ◌∷◌, ◌++◌, map, length, take, drop, Some, Option, sym, refl, ap, ◌∙◌, append_assoc, arith, take-append-drop, length-take-le, ne_eqb, leb-true}
 use Rattle.std.proofs.lemmas.Bool.Decides.{nat_tests}
-use Rattle.bytes.specs.Taking.{has_bit, Bytes}
-use Rattle.bytes.proofs.Forth.{pair_eq}
+use Rattle.byte_fields.specs.Taking.{has_bit, Bytes}
+use Rattle.byte_fields.proofs.Forth.{pair_eq}
 use Rattle.responses.specs.Inventories.{bit, byte_of, map_bytes, label_bytes, labels_bytes, inventory_bytes}
 use Rattle.responses.specs.Reading.{consed, bits_of, place_off, places_off, inventory_off, maybe}
 use Rattle.responses.proofs.Taking.{length_bits}

@@ -2,7 +2,7 @@
 -- that is not the status's, six bytes that stand for no cartridge, more than 21 entries) makes it read as nothing.
 use Rattle.std.specs.Prelude.{ℕ, zero, suc, Bool, true, false, cond, List, [], ◌∷◌, ◌++◌, length, take, drop, Some, None, Option, ◌==◌, nat_le}
 use Rattle.std.specs.Borrow.{Bor}
-use Rattle.bytes.specs.Taking.{has_bit, one_off, two_off, six_off}
+use Rattle.byte_fields.specs.Taking.{has_bit, one_off, two_off, six_off}
 use Rattle.labels.specs.Labels.{number_of_six}
 use Rattle.statuses.specs.declared.Status.{Status}
 use Rattle.statuses.specs.Statuses.{status_of}

@@ -1,7 +1,7 @@
 -- The bytes of a response, and what the writer leaves in a buffer.
 use Rattle.std.specs.Prelude.{ℕ, ◌+◌, Bool, cond, List, ◌∷◌, ◌++◌, length, drop, is_some, Some, None, Ok, Err, Option, Result, nat_lt}
 use Rattle.std.specs.Option.{option_map}
-use Rattle.bytes.specs.Putting.{one_bytes, two_bytes}
+use Rattle.byte_fields.specs.Putting.{one_bytes, two_bytes}
 use Rattle.statuses.specs.declared.Status.{Status}
 use Rattle.statuses.specs.Statuses.{row, status_number, layer_number}
 use Rattle.responses.specs.declared.writing.Unwritable.{Unwritable}

@@ -1,10 +1,10 @@
 //! A cartridge off the front: the number that six bytes stand for.
 
-ghost use Rattle.bytes.specs.Taking.{seen};
+ghost use Rattle.byte_fields.specs.Taking.{seen};
 ghost use Rattle.responses.specs.Reading.{cartridge_off};
 ghost use Rattle.std.specs.Prelude.{◌≡◌};
 
-use bytes::take_six;
+use byte_fields::take_six;
 use labels::number_of_six;
 
 pub(crate) fn take_cartridge(bytes: &[u8]) -> Option<(u32, &[u8])>

@@ -1,15 +1,15 @@
 //! Entries: a count byte, then nine bytes for each.
 
 ghost use Rattle.std.specs.Prelude.{◌≡◌, ◌+◌, ◌*◌, ◌≤◌, length, take};
-ghost use Rattle.bytes.specs.Putting.{Wrote};
+ghost use Rattle.byte_fields.specs.Putting.{Wrote};
 ghost use Rattle.responses.specs.Entries.{behind_label, each_bytes, entries_bytes, entry_bytes};
-ghost use Rattle.bytes.specs.Taking.{seen};
+ghost use Rattle.byte_fields.specs.Taking.{seen};
 ghost use Rattle.responses.specs.Reading.{each_off, entries_off, entry_off, gathered, maybe, seen_list};
 ghost use Rattle.responses.specs.Responses.{count_of, listed, most_entries};
 
 use crate::cartridges::take_cartridge;
 use crate::{Entry, MOST_ENTRIES};
-use bytes::put;
+use byte_fields::put;
 use labels::six_for;
 use statuses::Status;
 

@@ -2,15 +2,15 @@
 //! bit stands.
 
 ghost use Rattle.std.specs.Prelude.{◌≡◌, ◌+◌, ◌*◌, ◌%◌, ◌^◌, ◌<◌, ◌≤◌, false, length, slice_index_or};
-ghost use Rattle.bytes.specs.Putting.{Wrote};
+ghost use Rattle.byte_fields.specs.Putting.{Wrote};
 ghost use Rattle.responses.specs.Inventories.{inventory_bytes, label_bytes, labels_bytes, map_bytes};
-ghost use Rattle.bytes.specs.Taking.{seen};
+ghost use Rattle.byte_fields.specs.Taking.{seen};
 ghost use Rattle.responses.specs.Reading.{bits_of, gathered, inventory_off, maybe, place_off, seen_list};
 ghost use Rattle.responses.specs.Responses.{count_of, listed, most_places};
 
 use crate::MOST_PLACES;
 use crate::cartridges::take_cartridge;
-use bytes::put;
+use byte_fields::put;
 use labels::six_for;
 
 /// What the place's bit is worth in its map byte.

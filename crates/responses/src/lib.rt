@@ -1,6 +1,8 @@
 //! Response packets: what a response tells, how it is written into the front of a buffer, and how
 //! it is read again.
 
+#![tactic(auto)]
+
 ghost use Rattle.responses.specs.Responses.{final_with, held, kind_number, refused_by, told};
 ghost use Rattle.std.specs.Prelude.{◌≡◌, Some, None};
 

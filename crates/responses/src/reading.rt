@@ -1,7 +1,7 @@
 //! A response read off a packet, field by field. `None` says that the packet is no response.
 
 ghost use Rattle.std.specs.Prelude.{◌≡◌, ◌≤◌, length};
-ghost use Rattle.bytes.specs.Taking.{seen};
+ghost use Rattle.byte_fields.specs.Taking.{seen};
 ghost use Rattle.responses.specs.Reading.{command_off, detail_off, entries_on, head_off, inventory_on, kind_in, kind_off, layer_off, response_in, same, seen_response, status_in, status_off};
 ghost use Rattle.responses.specs.Responses.{listed, most_entries, most_places};
 ghost use Rattle.responses.specs.RoundTrips.{WrittenBack};
@@ -10,7 +10,7 @@ use crate::entries::take_entries;
 use crate::inventories::take_places;
 use crate::writing::layer_code;
 use crate::{Entry, MOST_ENTRIES, MOST_PLACES, Response, ResponseKind};
-use bytes::{has, take_one, take_two};
+use byte_fields::{has, take_one, take_two};
 use statuses::Status;
 
 /// The fields before the entries.

@@ -8,7 +8,7 @@ ghost use Rattle.responses.specs.Writing.{answer, bytes_of, flag, layer_byte, le
 use crate::entries::put_entries;
 use crate::inventories::put_inventory;
 use crate::{ENOUGH_BYTES, Entry, MOST_ENTRIES, MOST_PLACES, Response};
-use bytes::{put, put_one, put_two};
+use byte_fields::{put, put_one, put_two};
 use statuses::Status;
 
 /// Why a response is not written.

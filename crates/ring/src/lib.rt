@@ -2,6 +2,8 @@
 //!
 //! It is proved for any number of slots and any limit on how many of them it uses.
 
+#![tactic(auto)]
+
 mod queue;
 
 pub use queue::{Change, Condition, Ring};

@@ -3,6 +3,8 @@
 //! A robot is known above by one record, its meaning: the kind of each place, what each place and the hand
 //! hold, and which places are in service. Everything here is proved for every robot that keeps that meaning.
 
+#![tactic(auto)]
+
 pub mod act;
 pub mod equal;
 pub mod fault;

@@ -1,5 +1,7 @@
 //! Runs: any list of calls on a new library.
 
+#![tactic(auto)]
+
 ghost use Rattle.site.specs.Examples.{WorkedRules};
 ghost use Rattle.site.specs.Law.{RefusedUnchanged};
 

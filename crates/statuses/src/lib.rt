@@ -1,8 +1,10 @@
 //! The statuses that end a request, each with its number, the layer that refuses by it,
 //! and whether such a refusal tells a detail. One table in `specs/Statuses.antt` says all of it.
 
-ghost use Rattle.statuses.specs.Statuses.{layer_number, row, status_of};
-ghost use Rattle.std.specs.Prelude.{◌≡◌, Decides};
+#![tactic(auto)]
+
+ghost use Rattle.statuses.specs.Statuses.{layer_number, row, status_number, status_of};
+ghost use Rattle.std.specs.Prelude.{◌≡◌, ◌==◌, Decides};
 ghost use Rattle.std.specs.Cmp.Rules.{comparing};
 ghost use Rattle.std.proofs.Common.{rules};
 ghost use Rattle.std.specs.Cmp as Keys;
@@ -42,11 +44,14 @@ pub enum Status {
 
 /// A derived comparison would promise nothing of so many variants.
 impl PartialEq for Status {
-    ghost equals = { λ x y r. Decides r (x ≡ y) };
+    ghost eq = { λ x y. status_number x == status_number y };
 
-    ghost laws = { Keys.partial_equiv_from_equiv (Prim.search (comparing, rules)) };
+    ghost laws = { Prim.search (comparing, rules) };
 
-    fn eq(&self, other: &Status) -> bool {
+    fn eq(&self, other: &Status) -> bool
+        ensures value { result ≡ (status_number self.now == status_number other.now) }
+        ensures decides { Decides result (self.now ≡ other.now) }
+    {
         self.code() == other.code()
     }
 }

@@ -1,5 +1,7 @@
 //! What one step makes of the request at work, or of the oldest that waits.
 
+#![tactic(auto)]
+
 pub mod finish;
 pub mod marked;
 pub mod step;

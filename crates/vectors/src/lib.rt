@@ -1,5 +1,7 @@
 //! The worked examples of the rule book, executed.
 
+#![tactic(auto)]
+
 #[cfg(test)]
 mod acts;
 #[cfg(test)]

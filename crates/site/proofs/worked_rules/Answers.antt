@@ -4,7 +4,7 @@ use Rattle.site.proofs.worked_rules.Goals as goal
 pub returns : goal.returns
 returns c =
     record {
-      examples = c.worked-examples.ensures;
+      examples = c.worked_examples.ensures;
       receive_short = received_short;
       receive_enough = received_enough;
       step_short = stepped_short;

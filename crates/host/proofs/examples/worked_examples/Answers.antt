@@ -6,8 +6,8 @@ pub returns : goal.returns
 unfolding bytes_of
 returns c =
     record {
-      numbers = c.worked-numbers.ensures;
-      packets = c.worked-packets.ensures;
+      numbers = c.worked_numbers.ensures;
+      packets = c.worked_packets.ensures;
       less = refl;
       more = refl;
       empty = refl;

@@ -5,7 +5,7 @@ use Rattle.host.proofs.writing.cartridge_write_request.Goals as goal
 
 pub returns : goal.returns
 returns c =
-    let v = values_of c.args.number c.args.command c.args.option c.args.label.now c.args.place c.args.target c.args.drive-state in
+    let v = values_of c.args.number c.args.command c.args.option c.args.label.now c.args.place c.args.target c.args.drive_state in
     record {
       answer = c.tell.ensures ∙ ap told_of c.write.ensures.answer;
       after = c.write.ensures.after;

@@ -5,14 +5,14 @@ use Rattle.labels.proofs.Digits.{number_back}
 use Rattle.labels.proofs.Same.{label_range, numbered_is, numbered_none}
 use Rattle.labels.proofs.Label.of_number.Goals as goal
 
-pub returns-then-not-is-label-number : goal.returns-then-not-is-label-number
-returns-then-not-is-label-number c =
-    let b : is_label_number c.args.n ≡ false = sym c.is-label-number.ensures ∙ c.if-not-is-label-number.true in
+pub returns-then-not-is_label_number : goal.returns-then-not-is_label_number
+returns-then-not-is_label_number c =
+    let b : is_label_number c.args.n ≡ false = sym c.is_label_number.ensures ∙ c.if-not-is_label_number.true in
     record { is = numbered_none c.args.n b; back = b }
 
 pub returns : goal.returns
 returns c =
-    let b : is_label_number c.args.n ≡ true = sym c.is-label-number.ensures ∙ c.if-not-is-label-number.false in
+    let b : is_label_number c.args.n ≡ true = sym c.is_label_number.ensures ∙ c.if-not-is_label_number.false in
     let h = label_range c.args.n b in
     let k : 1 + (c.args.n - 1) ≡ c.args.n = omega (arith, h.0) in
     let i : c.character.result ∷ c.character-2.result ∷ c.character-3.result ∷ c.character-4.result ∷ c.character-5.result ∷ c.character-6.result ∷ [] ≡ label_of c.args.n = search rules in

@@ -7,5 +7,5 @@ pub returns : goal.returns
 unfolding six_for
 returns c =
     let n = c.args.number in
-    let i : c.characters-of.result ≡ six_for n = c.characters-of.ensures ∙ ap characters_or_marks c.of-number.ensures.is in
+    let i : c.characters_of.result ≡ six_for n = c.characters_of.ensures ∙ ap characters_or_marks c.of_number.ensures.is in
     record { is = i; back = λ h. ap number_of_six i ∙ six_back n (cartridge_range n h).0 (cartridge_range n h).1 }

@@ -1,5 +1,5 @@
 use Rattle.std.proofs.Common.{◌≡◌, rules}
-use Rattle.bytes.proofs.Forth.{bytes_all}
+use Rattle.byte_fields.proofs.Forth.{bytes_all}
 use Rattle.requests.specs.Reading.{request_in}
 use Rattle.requests.proofs.Forth.{reads_forth}
 use Rattle.requests.proofs.Lengths.{length_told}
@@ -10,6 +10,6 @@ returns c =
     let a : c.answer.result ≡ request_in c.args.packet.now = search rules in
     record {
       answer = a;
-      writes = reads_forth c.args.packet.now c.answer.result (bytes_all c.args.packet.now (λ i. (c.type-inv.packet i).fits)) a;
+      writes = reads_forth c.args.packet.now c.answer.result (bytes_all c.args.packet.now (λ i. (c.type_inv.packet i).fits)) a;
       lengths = length_told c.args.packet.now c.answer.result a;
     }

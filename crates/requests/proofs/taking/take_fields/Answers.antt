@@ -11,6 +11,6 @@ map-cut (a ∷ xs) h = rw take_rest
 
 pub returns : goal.returns
 returns c =
-    c.from-number.ensures
-    ∙ ap (λ (f : Fields). from_number f (take (length c.args.packet.now - 1) (drop 1 c.args.packet.now))) c.map-alone-2.ensures
+    c.from_number.ensures
+    ∙ ap (λ (f : Fields). from_number f (take (length c.args.packet.now - 1) (drop 1 c.args.packet.now))) c.map_alone-2.ensures
     ∙ map-cut c.args.packet.now (search rules)

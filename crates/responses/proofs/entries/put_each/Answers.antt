@@ -1,5 +1,5 @@
 use Rattle.std.proofs.Common.{sym, ap, arith, take_all}
-use Rattle.bytes.proofs.Overs.{wrote_none, wrote_then, wrote_same}
+use Rattle.byte_fields.proofs.Overs.{wrote_none, wrote_then, wrote_same}
 use Rattle.responses.specs.Entries.{each_bytes}
 use Rattle.responses.proofs.Loops.{each_more}
 use Rattle.responses.proofs.entries.put_each.Goals as goal
@@ -9,8 +9,8 @@ loop-e-init c = (wrote_none c.args.at c.args.buffer.now, omega arith)
 
 pub loop-e-preserved : goal.loop-e-preserved
 loop-e-preserved c = (
-  wrote_same _ _ (sym (each_more c.args.entries.now c.loop-e.e-index _ (omega arith))) (wrote_then (omega arith) c.loop-e.invariant.0 c.put-entry-at.ensures.wrote),
-  omega (arith, c.put-entry-at.ensures.size, c.loop-e.invariant.1),
+  wrote_same _ _ (sym (each_more c.args.entries.now c.loop-e.e-index _ (omega arith))) (wrote_then (omega arith) c.loop-e.invariant.0 c.put_entry-at.ensures.wrote),
+  omega (arith, c.put_entry-at.ensures.size, c.loop-e.invariant.1),
 )
 
 pub returns : goal.returns

@@ -4,4 +4,4 @@ use Rattle.responses.proofs.entries.take_entry.Goals as goal
 
 pub returns : goal.returns
 returns c =
-    entry_on c.args.bytes.now c.in-Some.cartridge c.in-Some.rest.now c.in-Some-of-code.status c.in-Some.ensures (omega (arith, ltb-false)) c.in-Some-of-code.ensures
+    entry_on c.args.bytes.now c.in-Some.cartridge c.in-Some.rest.now c.in-Some-of_code.status c.in-Some.ensures (omega (arith, ltb-false)) c.in-Some-of_code.ensures

@@ -1,5 +1,5 @@
 use Rattle.std.proofs.Common.{◌+◌, ◌*◌, ◌≤◌, take}
-use Rattle.bytes.specs.Putting.{Wrote}
+use Rattle.byte_fields.specs.Putting.{Wrote}
 use Rattle.responses.specs.Inventories.{labels_bytes}
 use Rattle.responses.proofs.inventories.put_labels.Given as goal
 

@@ -8,17 +8,17 @@ pub loop-place-init : goal.loop-place-init
 loop-place-init c =
     prefixed_none _ ∙ ap (λ (l : List ℕ). prefixed [] (places_off (bits_of (take 32 c.args.bytes.now)) l)) (sym (take_rest c.args.bytes.now 32))
 
-pub returns-in-default : goal.returns-in-default
-returns-in-default c =
+pub returns-in_default : goal.returns-in_default
+returns-in_default c =
     let m = length-take-le 32 c.args.bytes.now (omega arith) in
     let n = length_bits (take 32 c.args.bytes.now) in
-    sym (inventory_at c.args.bytes.now _ (omega arith) refl ∙ c.loop-place.invariant ∙ place_stop (bits_of (take 32 c.args.bytes.now)) c.loop-place.place _ c.loop-place.places c.bit-at.result (omega arith) c.bit-at.ensures c.in-default.ensures)
+    sym (inventory_at c.args.bytes.now _ (omega arith) refl ∙ c.loop-place.invariant ∙ place_stop (bits_of (take 32 c.args.bytes.now)) c.loop-place.place _ c.loop-place.places c.bit_at.result (omega arith) c.bit_at.ensures c.in_default.ensures)
 
 pub loop-place-preserved : goal.loop-place-preserved
 loop-place-preserved c =
     let m = length-take-le 32 c.args.bytes.now (omega arith) in
     let n = length_bits (take 32 c.args.bytes.now) in
-    c.loop-place.invariant ∙ place_turn (bits_of (take 32 c.args.bytes.now)) c.loop-place.place _ _ c.loop-place.places _ c.bit-at.result (omega arith) (omega arith) c.bit-at.ensures c.in-Some.ensures
+    c.loop-place.invariant ∙ place_turn (bits_of (take 32 c.args.bytes.now)) c.loop-place.place _ _ c.loop-place.places _ c.bit_at.result (omega arith) (omega arith) c.bit_at.ensures c.in-Some.ensures
 
 pub returns : goal.returns
 returns c =

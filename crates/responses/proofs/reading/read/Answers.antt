@@ -1,6 +1,6 @@
 use Rattle.std.proofs.Common.{◌≡◌, ℕ, ◌-◌, ◌<◌, ◌≤◌, List, [], ◌∷◌, length, get_or, take, drop, None, Option, sym, refl, ap, ◌∙◌, arith, rules}
 use Rattle.std.proofs.lemmas.List.{take_rest}
-use Rattle.bytes.proofs.Forth.{bytes_all}
+use Rattle.byte_fields.proofs.Forth.{bytes_all}
 use Rattle.responses.specs.declared.reading.Head.{Head}
 use Rattle.responses.specs.Reading.{after, head_off, entries_on, response_in, seen_response}
 use Rattle.responses.proofs.Forth.{reads_forth}
@@ -17,18 +17,18 @@ unfolding response_in
 no-map [] h = refl
 no-map (a ∷ xs) h = absurd (omega arith)
 
-pub returns-in-default : goal.returns-in-default
-returns-in-default c = record { answer = no-map c.args.packet.now (search rules); writes = tt }
+pub returns-in_default : goal.returns-in_default
+returns-in_default c = record { answer = no-map c.args.packet.now (search rules); writes = tt }
 
-pub returns-in-default-take-head : goal.returns-in-default-take-head
-returns-in-default-take-head c = record {
-  answer = ap (λ (o : Option (Head × List ℕ)). after o (entries_on (get_or c.args.packet.now 0 0))) c.in-default-take-head.ensures ∙ sym (map-cut c.args.packet.now (search rules));
+pub returns-in_default-take_head : goal.returns-in_default-take_head
+returns-in_default-take_head c = record {
+  answer = ap (λ (o : Option (Head × List ℕ)). after o (entries_on (get_or c.args.packet.now 0 0))) c.in_default-take_head.ensures ∙ sym (map-cut c.args.packet.now (search rules));
   writes = tt;
 }
 
 pub returns : goal.returns
 returns c =
     let p = c.args.packet.now in
-    let a : seen_response c.with-lists.result ≡ response_in p =
-    c.with-lists.ensures ∙ ap (λ (o : Option (Head × List ℕ)). after o (entries_on (get_or p 0 0))) c.in-Some.ensures ∙ sym (map-cut p (search rules)) in
-    record { answer = a; writes = reads_forth p c.with-lists.result (bytes_all p (λ i. (c.type-inv.packet i).fits)) a }
+    let a : seen_response c.with_lists.result ≡ response_in p =
+    c.with_lists.ensures ∙ ap (λ (o : Option (Head × List ℕ)). after o (entries_on (get_or p 0 0))) c.in-Some.ensures ∙ sym (map-cut p (search rules)) in
+    record { answer = a; writes = reads_forth p c.with_lists.result (bytes_all p (λ i. (c.type_inv.packet i).fits)) a }

@@ -3,8 +3,8 @@ use Rattle.statuses.specs.Statuses.{status_number}
 use Rattle.statuses.proofs.Numbers.{same_status}
 use Rattle.statuses.proofs.StatusPartialEq.eq.Goals as goal
 
-pub returns : goal.returns
-returns c = (
+pub returns-clause-decides : goal.returns-clause-decides
+returns-clause-decides c = (
   λ e. same_status c.args.self.now c.args.other.now (sym c.code.ensures ∙ eqb-true c.code.result c.code-2.result e ∙ c.code-2.ensures),
   λ e. eq-eqb c.code.result c.code-2.result (c.code.ensures ∙ ap status_number e ∙ sym c.code-2.ensures),
 )

@@ -5,10 +5,10 @@ use Rattle.tag_frame.proofs.site.sites_of.Goals as goal
 
 pub loop-place-preserved : goal.loop-place-preserved
 loop-place-preserved c = (
-  sites_more c.args.places.now c.loop-place.place-index _ (vec_items c.loop-place.sites) (vec_items c.push-reserved.new.self)
-      c.loop-place-test.true c.loop-place.invariant.0 c.push-reserved.ensures.items,
-  omega (arith, c.push-reserved.ensures.len, c.loop-place.invariant.1),
-  omega (arith, c.push-reserved.ensures.capacity, c.loop-place.invariant.2),
+  sites_more c.args.places.now c.loop-place.place-index _ (vec_items c.loop-place.sites) (vec_items c.push_reserved.new.self)
+      c.loop-place-test.true c.loop-place.invariant.0 c.push_reserved.ensures.items,
+  omega (arith, c.push_reserved.ensures.len, c.loop-place.invariant.1),
+  omega (arith, c.push_reserved.ensures.capacity, c.loop-place.invariant.2),
 )
 
 pub returns : goal.returns

@@ -3,12 +3,12 @@ use Rattle.robots.proofs.Makings.{passed, numbers_within}
 use Rattle.bay.specs.Numbered.{Numbered}
 use Rattle.bay.proofs.bay.Bay.new.Goals as goal
 
-pub invariant-of-result : goal.invariant-of-result
-invariant-of-result c =
+pub invariant_of-result : goal.invariant_of-result
+invariant_of-result c =
     let xs = c.args.places.now in
-    let v = c.in-ok-places.places in
-    let e : vec_items v ≡ xs = c.in-ok-places.ensures.items-if-clones-equal (λ x y h. h) in
-    let a = passed xs c.args.hand _ c.in-ok-check-places.ensures in
+    let v = c.in_ok-places.places in
+    let e : vec_items v ≡ xs = c.in_ok-places.ensures.items-if-clones-equal (λ x y h. h) in
+    let a = passed xs c.args.hand _ c.in_ok-check_places.ensures in
     let l : vec_len v ≤ 256 = omega (arith, v.ok.0, ap length e, a.few) in
     let n : Numbered (vec_items v) = rw e (numbers_within xs a.numbers) in
     (l, (n, (a.hand_number, tt)))

@@ -3,14 +3,14 @@ use Rattle.std.proofs.lemmas.List.{length-map}
 use Rattle.bay.specs.Stored.{stored, still_numbered}
 use Rattle.bay.proofs.bay.Bay.store.Goals as goal
 
-pub index-mut-requires : goal.index-mut-requires
-index-mut-requires c = omega (arith, c.args.self.now.places.ok.0, simp length-map at c.requires.within)
+pub index_mut-requires : goal.index_mut-requires
+index_mut-requires c = omega (arith, c.args.self.now.places.ok.0, simp length-map at c.requires.within)
 
-pub invariant-of-self : goal.invariant-of-self
-invariant-of-self c =
+pub invariant_of-self : goal.invariant_of-self
+invariant_of-self c =
     (c.args.self.now.few, (still_numbered c.args.self.now.places.items c.args.p _ c.args.self.now.numbered c.requires.numbered, (c.requires.handed, tt)))
 
 pub returns : goal.returns
 returns c =
-    stored c.args.self.now.places.items c.args.p c.index-mut.result.now c.args.number c.args.self.now.hand c.args.hand
-    (simp length-map at c.requires.within) c.index-mut.ensures.value
+    stored c.args.self.now.places.items c.args.p c.index_mut.result.now c.args.number c.args.self.now.hand c.args.hand
+    (simp length-map at c.requires.within) c.index_mut.ensures.value

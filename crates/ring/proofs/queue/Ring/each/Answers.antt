@@ -2,7 +2,7 @@ use Rattle.std.proofs.Common.{◌≡◌, ◌+◌, ◌<◌, ◌≤◌, length, sy
 use Rattle.ring.specs.Queue.{Kept, Sound, records}
 use Rattle.ring.proofs.Slots.{kept_then}
 use Rattle.ring.proofs.Loops.{partly_all, length_partly, nth_there, each_more}
-use Rattle.ring.proofs.queue.Ring.each.Goals.{in-Some, in-default}
+use Rattle.ring.proofs.queue.Ring.each.Goals.{in-Some, in_default}
 use Rattle.ring.proofs.queue.Ring.each.Goals as goal
 
 pub loop-i-init : goal.loop-i-init
@@ -36,7 +36,7 @@ loop-i-preserved g c =
         subst (Kept c.args.self.now) (sym w.self-is) (kept_then c.args.self.now c.loop-i.self _ v.1 w.overwrite.ensures.kept),
         subst Sound (sym w.self-is) w.overwrite.ensures.sound,
       )
-      | in-default w ↦ absurd (nth_there zs i h (sym c.get.ensures ∙ w.in-default.is))
+      | in_default w ↦ absurd (nth_there zs i h (sym c.get.ensures ∙ w.in_default.is))
     ]
 
 pub returns : goal.returns

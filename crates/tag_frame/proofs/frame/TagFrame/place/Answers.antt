@@ -14,6 +14,6 @@ returns c =
     let f = c.args.self.now in
     let l : c.args.p < length f.sites.items = omega (arith, f.sites.ok.0) in
     record {
-      value = place_is f.sites.items (table_held f.table) f.hand c.args.p c.index-site.result.now c.number-at.result l c.index-site.ensures c.number-at.ensures.value;
-      number = c.number-at.ensures.number;
+      value = place_is f.sites.items (table_held f.table) f.hand c.args.p c.index-site.result.now c.number_at.result l c.index-site.ensures c.number_at.ensures.value;
+      number = c.number_at.ensures.number;
     }

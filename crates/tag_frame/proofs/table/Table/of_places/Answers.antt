@@ -7,7 +7,7 @@ use Rattle.tag_frame.proofs.table.Table.of_places.Goals.{then-number-ne0, else-n
 
 pub loop-p-init : goal.loop-p-init
 loop-p-init c =
-    let w = c.in-ok-table.ensures in
+    let w = c.in_ok-table.ensures in
     (w.0, w.1 ∙ sym (filled_none c.args.places.now))
 
 pub with-table-requires : goal.with-table-requires

@@ -7,8 +7,8 @@ remove-requires c =
     let s = c.args.self in
     omega (arith, s.tags.ok.0, c.find-i.ensures, held_within s.count s.tags.items c.args.p s.distinct c.requires)
 
-pub invariant-of-result : goal.invariant-of-result
-invariant-of-result c =
+pub invariant_of-result : goal.invariant_of-result
+invariant_of-result c =
     let s = c.args.self in
     let v = c.remove.new.self in
     let a = fewer_tidy s.count s.tags.items (vec_items v) c.args.p c.find-i.result s.distinct c.find-i.ensures c.remove.ensures.items in

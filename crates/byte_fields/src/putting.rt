@@ -2,7 +2,7 @@
 //! the next field goes; one that does not fit is not written, and the place stays.
 
 ghost use Rattle.std.specs.Prelude.{◌≡◌, ◌+◌, ◌<◌, ◌≤◌, length, Some, nat_le};
-ghost use Rattle.bytes.specs.Putting.{Wrote, one_bytes, six_bytes, two_bytes};
+ghost use Rattle.byte_fields.specs.Putting.{Wrote, one_bytes, six_bytes, two_bytes};
 
 /// Whether `count` bytes from `at` on stand in a buffer of `room` bytes.
 fn has_room(room: usize, at: usize, count: usize) -> bool

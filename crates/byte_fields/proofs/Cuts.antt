@@ -1,7 +1,7 @@
 -- What a slice pattern's names and rest are, as cuts off the front of a list.
 use Rattle.std.proofs.Common.{◌≡◌, ℕ, ◌+◌, ◌-◌, ◌*◌, ◌≤◌, true, List, [], ◌∷◌, length, get_or, take, drop, Some, arith}
 use Rattle.std.proofs.lemmas.List.{take_rest}
-use Rattle.bytes.specs.Taking.{one_off, two_off, six_off}
+use Rattle.byte_fields.specs.Taking.{one_off, two_off, six_off}
 
 pub one_cut : (xs : List ℕ) → 1 ≤ length xs → Some (Some (get_or xs 0 0), take (length xs - 1) (drop 1 xs)) ≡ one_off true xs
 one_cut [] h = absurd (omega arith)

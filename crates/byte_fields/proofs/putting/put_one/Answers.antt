@@ -1,6 +1,6 @@
 use Rattle.std.proofs.Common.{refl, arith}
-use Rattle.bytes.proofs.Overs.{wrote_none}
-use Rattle.bytes.proofs.putting.put_one.Goals as goal
+use Rattle.byte_fields.proofs.Overs.{wrote_none}
+use Rattle.byte_fields.proofs.putting.put_one.Goals as goal
 
 pub returns-in-None : goal.returns-in-None
 returns-in-None c =

@@ -1,7 +1,7 @@
 -- A field that was put is taken off again as it was.
 use Rattle.std.proofs.Common.{◌≡◌, ℕ, ◌+◌, ◌*◌, ◌/◌, ◌%◌, List, [], ◌∷◌, ◌++◌, length, is_some, Some, None, Option, refl, arith}
-use Rattle.bytes.specs.Taking.{one_off, two_off, six_off}
-use Rattle.bytes.specs.Putting.{one_bytes, two_bytes, six_bytes}
+use Rattle.byte_fields.specs.Taking.{one_off, two_off, six_off}
+use Rattle.byte_fields.specs.Putting.{one_bytes, two_bytes, six_bytes}
 
 pub one_back : (o : Option ℕ) (rest : List ℕ) → Some (o, rest) ≡ one_off (is_some o) (one_bytes o ++ rest)
 one_back None rest = refl

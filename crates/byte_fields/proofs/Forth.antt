@@ -1,7 +1,7 @@
 -- A field that was taken off has the bytes that it was cut from.
 use Rattle.std.proofs.Common.{◌≡◌, ℕ, suc, ◌+◌, ◌*◌, ◌/◌, ◌%◌, ◌<◌, Bool, true, false, List, [], ◌∷◌, ◌++◌, get_or, is_some, Some, None, Option, ap, arith}
-use Rattle.bytes.specs.Taking.{one_off, two_off, six_off, Bytes}
-use Rattle.bytes.specs.Putting.{one_bytes, two_bytes, six_bytes}
+use Rattle.byte_fields.specs.Taking.{one_off, two_off, six_off, Bytes}
+use Rattle.byte_fields.specs.Putting.{one_bytes, two_bytes, six_bytes}
 
 pub none_some : {X : Type 0} (x : X) → None ≡ Some x → ⊥
 none_some x h = let z : ◌≡◌ {A = ℕ} 0 1 = cc in omega arith

@@ -1,7 +1,7 @@
 //! Fields taken off the front, each only if it is there. `None` says that the bytes end before it.
 
 ghost use Rattle.std.specs.Prelude.{◌≡◌, ◌+◌, ◌*◌};
-ghost use Rattle.bytes.specs.Taking.{has_bit, one_off, seen, six_off, two_off};
+ghost use Rattle.byte_fields.specs.Taking.{has_bit, one_off, seen, six_off, two_off};
 
 /// Whether the bit that is worth `worth` stands in the map.
 pub fn has(map: u8, worth: u8) -> bool

@@ -2,7 +2,7 @@
 use Rattle.std.proofs.Common.{◌≡◌, ℕ, ◌+◌, ◌-◌, ◌≤◌, List, [], ◌++◌, length, take, drop, Some, None, Option, sym, ap, ◌∙◌, subst, append_assoc, add-zero, zero-add, arith, length-append, take-append-drop, length-take-le, drop-drop}
 use borrow.Rule.Slice.PartMut.{put_mid}
 use Rattle.std.proofs.lemmas.List.{take_at, drop_at}
-use Rattle.bytes.specs.Putting.{over, Wrote, one_bytes, two_bytes}
+use Rattle.byte_fields.specs.Putting.{over, Wrote, one_bytes, two_bytes}
 
 pub over_none : (at : ℕ) (xs : List ℕ) → over at [] xs ≡ xs
 over_none at xs = rw (add-zero, take-append-drop)

@@ -2,6 +2,8 @@
 //! there, fields of one, two and six bytes taken off the front of a packet, and the same fields
 //! put into a buffer.
 
+#![tactic(auto)]
+
 mod putting;
 mod taking;
 
