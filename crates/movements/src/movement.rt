@@ -47,7 +47,7 @@ impl From<Fault> for Stopped {
 
 /// Where a cartridge from p goes.
 fn seek<Q: Questions>(robot: &Q, target: Target, p: u16) -> Option<u16>
-    ensures { result ≡ sought target (meaning robot.now) p }
+    ensures { result ≡ sought target (Q.meaning robot.now) p }
 {
     match target {
         Target::At(q) => Some(q),

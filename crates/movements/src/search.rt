@@ -21,7 +21,7 @@ pub enum Wanted {
 
 /// Whether there is a port place p.
 pub fn is_port<Q: Questions>(robot: &Q, p: u16) -> bool
-    ensures { result ≡ of_kind is_port (meaning robot.now) p }
+    ensures { result ≡ of_kind is_port (Q.meaning robot.now) p }
 {
     match robot.kind(p) {
         Some(Kind::Port) => true,
@@ -31,7 +31,7 @@ pub fn is_port<Q: Questions>(robot: &Q, p: u16) -> bool
 
 /// Whether there is a drive p.
 pub fn is_drive<Q: Questions>(robot: &Q, p: u16) -> bool
-    ensures { result ≡ of_kind is_drive (meaning robot.now) p }
+    ensures { result ≡ of_kind is_drive (Q.meaning robot.now) p }
 {
     match robot.kind(p) {
         Some(Kind::Drive) => true,
@@ -41,7 +41,7 @@ pub fn is_drive<Q: Questions>(robot: &Q, p: u16) -> bool
 
 /// Whether the place p is one that is looked for.
 fn is_wanted<Q: Questions>(robot: &Q, wanted: Wanted, p: u16) -> bool
-    ensures { result ≡ passes wanted (meaning robot.now) p }
+    ensures { result ≡ passes wanted (Q.meaning robot.now) p }
 {
     match (
         wanted,
@@ -58,7 +58,7 @@ fn is_wanted<Q: Questions>(robot: &Q, wanted: Wanted, p: u16) -> bool
 
 /// The first wanted place from `from` up to, and without, `to`.
 fn first_between<Q: Questions>(robot: &Q, wanted: Wanted, from: u16, to: u16) -> Option<u16>
-    ensures value { result ≡ first_of wanted (meaning robot.now) (up_to from to) }
+    ensures value { result ≡ first_of wanted (Q.meaning robot.now) (up_to from to) }
     ensures within { IfSome result (λ p. p < to) }
 {
     for i in from..to {
@@ -72,14 +72,14 @@ fn first_between<Q: Questions>(robot: &Q, wanted: Wanted, from: u16, to: u16) ->
 /// The lowest free cell up to p, and with it.
 fn free_cell_up_to<Q: Questions>(robot: &Q, p: u16) -> Option<u16>
     requires { p < 65535 }
-    ensures { result ≡ first_of FreeCell (meaning robot.now) (up_to 0 (p + 1)) }
+    ensures { result ≡ first_of FreeCell (Q.meaning robot.now) (up_to 0 (p + 1)) }
 {
     first_between(robot, Wanted::FreeCell, 0, p + 1)
 }
 
 /// The first free cell after p, then up to p.
 pub fn next_free_cell<Q: Questions>(robot: &Q, p: u16) -> Option<u16>
-    ensures { result ≡ next_free_cell (meaning robot.now) p }
+    ensures { result ≡ next_free_cell (Q.meaning robot.now) p }
 {
     let n = robot.places();
     if p >= n {
@@ -93,14 +93,14 @@ pub fn next_free_cell<Q: Questions>(robot: &Q, p: u16) -> Option<u16>
 
 /// The lowest free port place.
 pub fn lowest_free_port<Q: Questions>(robot: &Q) -> Option<u16>
-    ensures { result ≡ lowest_free_port (meaning robot.now) }
+    ensures { result ≡ lowest_free_port (Q.meaning robot.now) }
 {
     first_between(robot, Wanted::FreePort, 0, robot.places())
 }
 
 /// The lowest full port place from p on.
 pub fn next_full_port<Q: Questions>(robot: &Q, p: u16) -> Option<u16>
-    ensures value { result ≡ next_full_port (meaning robot.now) p }
+    ensures value { result ≡ next_full_port (Q.meaning robot.now) p }
     ensures within { IfSome result (λ q. q < 65535) }
 {
     first_between(robot, Wanted::FullPort, p, robot.places())
@@ -108,7 +108,7 @@ pub fn next_full_port<Q: Questions>(robot: &Q, p: u16) -> Option<u16>
 
 /// How many port places there are.
 pub fn port_count<Q: Questions>(robot: &Q) -> u16
-    ensures { result ≡ port_count (meaning robot.now) }
+    ensures { result ≡ port_count (Q.meaning robot.now) }
 {
     let n = robot.places();
     let mut found = 0;

@@ -47,7 +47,7 @@ pub fn put_back<R: Robot>(slip: Slip, robot: &mut R)
 
 /// The token for a cartridge that is in the hand, if there is one.
 pub fn find<Q: Questions>(robot: &Q) -> Option<Found>
-    ensures { result ≡ found (meaning robot.now) }
+    ensures { result ≡ found (Q.meaning robot.now) }
 {
     let cartridge = robot.in_hand();
     if cartridge == 0 {
@@ -67,7 +67,7 @@ pub fn set_found<R: Robot>(token: Found, robot: &mut R, to: u16)
 
 /// Leaves a cartridge that was found in the hand where it is; whoever calls shows that no cell is free for it.
 pub fn leave_found<Q: Questions>(token: Found, robot: &Q, from: u16)
-    requires { next_free_cell (meaning robot.now) from ≡ None }
+    requires { next_free_cell (Q.meaning robot.now) from ≡ None }
 {
     token.spend();
 }

@@ -48,7 +48,7 @@ pub enum Answer {
 
 /// Asks the robot this.
 pub fn ask<Q: Questions>(robot: &Q, question: Question) -> Reply
-    ensures { result ≡ reply_to (meaning robot.now) question }
+    ensures { result ≡ reply_to (Q.meaning robot.now) question }
 {
     match question {
         Question::Places => Reply::Count(robot.places()),

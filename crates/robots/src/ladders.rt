@@ -10,7 +10,7 @@ use labels::UNREADABLE_NUMBER;
 
 /// What a lift would answer.
 pub fn may_lift<Q: Questions>(robot: &Q, p: u16) -> Result<u32, Fault>
-    ensures answer { result ≡ lift_answer (meaning robot.now) p }
+    ensures answer { result ≡ lift_answer (Q.meaning robot.now) p }
     ensures number { IfOk result (λ n. n ≤ unreadable_number) }
 {
     let (Some(number), Some(service)) = (robot.cartridge(p), robot.in_service(p)) else {
@@ -29,7 +29,7 @@ pub fn may_lift<Q: Questions>(robot: &Q, p: u16) -> Result<u32, Fault>
 
 /// What a set would answer.
 pub fn may_set<Q: Questions>(robot: &Q, p: u16) -> Result<(), Fault>
-    ensures { result ≡ set_answer (meaning robot.now) p }
+    ensures { result ≡ set_answer (Q.meaning robot.now) p }
 {
     let (Some(number), Some(service)) = (robot.cartridge(p), robot.in_service(p)) else {
         return Err(Fault::NoPlace(p));
@@ -47,7 +47,7 @@ pub fn may_set<Q: Questions>(robot: &Q, p: u16) -> Result<(), Fault>
 
 /// What a put would answer.
 pub fn may_put<Q: Questions>(robot: &Q, p: u16, number: u32) -> Result<(), Fault>
-    ensures { result ≡ put_answer (meaning robot.now) p number }
+    ensures { result ≡ put_answer (Q.meaning robot.now) p number }
 {
     let Some(held) = robot.cartridge(p) else {
         return Err(Fault::NoPlace(p));
@@ -63,7 +63,7 @@ pub fn may_put<Q: Questions>(robot: &Q, p: u16, number: u32) -> Result<(), Fault
 
 /// What a take would answer.
 pub fn may_take<Q: Questions>(robot: &Q, p: u16) -> Result<u32, Fault>
-    ensures { result ≡ take_answer (meaning robot.now) p }
+    ensures { result ≡ take_answer (Q.meaning robot.now) p }
 {
     let Some(number) = robot.cartridge(p) else {
         return Err(Fault::NoPlace(p));
@@ -77,7 +77,7 @@ pub fn may_take<Q: Questions>(robot: &Q, p: u16) -> Result<u32, Fault>
 
 /// What a switch would answer.
 pub fn may_switch<Q: Questions>(robot: &Q, p: u16) -> Result<(), Fault>
-    ensures { result ≡ switch_answer (meaning robot.now) p }
+    ensures { result ≡ switch_answer (Q.meaning robot.now) p }
 {
     match robot.kind(p) {
         Some(_) => Ok(()),

@@ -18,7 +18,7 @@ use robots::robot::{Questions, Robot};
 
 /// The number of the cartridge at p; 0 where there is none, or no such place.
 pub fn held<Q: Questions>(robot: &Q, p: u16) -> u32
-    ensures { result ≡ held_in (meaning robot.now) p }
+    ensures { result ≡ held_in (Q.meaning robot.now) p }
 {
     match robot.cartridge(p) {
         Some(number) => number,

@@ -24,7 +24,7 @@ fn readable(number: u32) -> bool
 
 /// Whether a start accepts the make-up: 1 to 256 places, at most 21 of them port places.
 fn fit<Q: Questions>(robot: &Q) -> bool
-    ensures { result ≡ fit (meaning robot.now) }
+    ensures { result ≡ fit (Q.meaning robot.now) }
 {
     let n = robot.places();
     let ports = port_count(robot);
@@ -33,14 +33,14 @@ fn fit<Q: Questions>(robot: &Q) -> bool
 
 /// What an inventory says of the place p: its cartridge, where it is a cell or a drive.
 fn shown<Q: Questions>(robot: &Q, p: u16) -> u32
-    ensures { result ≡ shown_at (meaning robot.now) p }
+    ensures { result ≡ shown_at (Q.meaning robot.now) p }
 {
     if is_port(robot, p) { 0 } else { held(robot, p) }
 }
 
 /// What cells and drives hold, for each of 256 places.
 fn inventory<Q: Questions>(robot: &Q) -> [u32; 256]
-    ensures { result ≡ inventory_of (meaning robot.now) }
+    ensures { result ≡ inventory_of (Q.meaning robot.now) }
 {
     let mut places = [0u32; 256];
     for p in 0..256u16 {
