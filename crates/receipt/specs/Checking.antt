@@ -8,7 +8,7 @@ use Rattle.requests.specs.declared.bodies.Body.{Body}
 use Rattle.requests.specs.declared.bodies.Body.TheVariants as body
 use Rattle.requests.specs.declared.bodies.DriveSetting.{DriveSetting}
 use Rattle.requests.specs.declared.bodies.DriveSetting.TheVariants as setting
-use Rattle.movements.specs.Search.{is_drive, of_kind}
+use Rattle.robot_moves.specs.Search.{is_drive, of_kind}
 use Rattle.stock.specs.Refusals.{in_byte}
 use Rattle.library.specs.declared.state.State.{State}
 use Rattle.library.specs.declared.state.State.TheVariants as state

@@ -4,7 +4,7 @@ use Rattle.robots.specs.declared.fault.Fault.{Fault}
 use Rattle.robots.specs.declared.fault.Fault.TheVariants.{NoPlace, HandFull, HandEmpty, OutOfService, PlaceEmpty, PlaceFull, BadNumber}
 use Rattle.robots.specs.Meaning.{count}
 use Rattle.robots.specs.Acts.{put_answer, switch_answer, take_answer}
-use Rattle.movements.specs.Search.{is_port, of_kind}
+use Rattle.robot_moves.specs.Search.{is_port, of_kind}
 use Rattle.requests.specs.declared.bodies.Body.{Body}
 use Rattle.requests.specs.declared.bodies.Body.TheVariants as body
 use Rattle.library.specs.Library.{Job, Library}

@@ -9,13 +9,13 @@ use Rattle.statuses.specs.declared.Status.{Status}
 use Rattle.statuses.specs.declared.Status.TheVariants as status
 use Rattle.responses.specs.declared.Entry.{Entry}
 use Rattle.robots.specs.declared.kind.Kind.{Kind}
-use Rattle.movements.specs.declared.movement.Target.{Target}
-use Rattle.movements.specs.declared.movement.Target.TheVariants.{At, NextCell, LowestPort}
-use Rattle.movements.specs.declared.movement.Moved.{Moved as Gone}
-use Rattle.movements.specs.declared.movement.Stopped.{Stopped}
+use Rattle.robot_moves.specs.declared.movement.Target.{Target}
+use Rattle.robot_moves.specs.declared.movement.Target.TheVariants.{At, NextCell, LowestPort}
+use Rattle.robot_moves.specs.declared.movement.Moved.{Moved as Gone}
+use Rattle.robot_moves.specs.declared.movement.Stopped.{Stopped}
 use Rattle.robots.specs.Meaning.{Meaning, Sound, count, held_at}
-use Rattle.movements.specs.Movement.{Movement, movement}
-use Rattle.movements.specs.Search.{is_drive, of_kind}
+use Rattle.robot_moves.specs.Movement.{Movement, movement}
+use Rattle.robot_moves.specs.Search.{is_drive, of_kind}
 use Rattle.robots.specs.Cartridges.{tally, cartridges_of}
 use Rattle.robots.proofs.Acts.{tally_set}
 use Rattle.stock.specs.declared.catalogue.Row.{Row}

@@ -20,7 +20,7 @@ use Rattle.robots.specs.declared.kind.Kind.{Kind}
 use Rattle.robots.specs.Meaning.{Meaning, Sound, count, held_at}
 use Rattle.robots.specs.Acts.{put_refusal, take_refusal, switch_refusal, with_held, with_service}
 use Rattle.robots.specs.Cartridges.{cartridges_of}
-use Rattle.movements.specs.Search.{is_port, next_full_port, of_kind}
+use Rattle.robot_moves.specs.Search.{is_port, next_full_port, of_kind}
 use Rattle.robots.proofs.Acts.{tally_set}
 use Rattle.stock.specs.declared.catalogue.Row.{Row}
 use Rattle.stock.specs.declared.refusal.Refusal.{Refusal}

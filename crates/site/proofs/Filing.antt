@@ -7,15 +7,15 @@ use Rattle.std.proofs.lemmas.Bool.Decides.{nat_tests}
 use Rattle.labels.specs.Numbers.{unreadable_number}
 use Rattle.robots.specs.declared.kind.Kind.{Kind}
 use Rattle.robots.specs.declared.kind.Kind.TheVariants.{Cell, Drive, Port}
-use Rattle.movements.specs.declared.movement.Target.{Target}
-use Rattle.movements.specs.declared.movement.Target.TheVariants.{At, NextCell, LowestPort}
-use Rattle.movements.specs.declared.movement.Moved.{Moved as Gone}
-use Rattle.movements.specs.declared.movement.Stopped.{Stopped}
-use Rattle.movements.specs.declared.search.Wanted.TheVariants.{FreeCell, FreePort, FullPort}
+use Rattle.robot_moves.specs.declared.movement.Target.{Target}
+use Rattle.robot_moves.specs.declared.movement.Target.TheVariants.{At, NextCell, LowestPort}
+use Rattle.robot_moves.specs.declared.movement.Moved.{Moved as Gone}
+use Rattle.robot_moves.specs.declared.movement.Stopped.{Stopped}
+use Rattle.robot_moves.specs.declared.search.Wanted.TheVariants.{FreeCell, FreePort, FullPort}
 use Rattle.robots.specs.Meaning.{Meaning, Sound, count, held_at, kind_of}
-use Rattle.movements.specs.Movement.{Movement, movement, sought}
-use Rattle.movements.specs.Search.{is_cell, is_drive, is_port, of_kind, passes, next_free_cell, up_to}
-use Rattle.movements.proofs.Places.{first_passes}
+use Rattle.robot_moves.specs.Movement.{Movement, movement, sought}
+use Rattle.robot_moves.specs.Search.{is_cell, is_drive, is_port, of_kind, passes, next_free_cell, up_to}
+use Rattle.robot_moves.proofs.Places.{first_passes}
 use Rattle.stock.specs.declared.catalogue.Filed.{Filed}
 use Rattle.stock.specs.declared.catalogue.Row.{Row}
 use Rattle.stock.specs.declared.catalogue.Volume.{Volume}

@@ -5,7 +5,7 @@ use Rattle.requests.specs.declared.bodies.Body.TheVariants as body
 use Rattle.requests.specs.declared.bodies.Request.{Request}
 use Rattle.responses.specs.RoundTrips.{Entered}
 use Rattle.robots.specs.Meaning.{Meaning, Sound, count}
-use Rattle.movements.specs.Search.{is_drive, of_kind, ports_among, up_to}
+use Rattle.robot_moves.specs.Search.{is_drive, of_kind, ports_among, up_to}
 use Rattle.stock.specs.declared.catalogue.Filed.{Filed}
 use Rattle.stock.specs.Models.{Stocked}
 use Rattle.stock.specs.Starts.{fit}

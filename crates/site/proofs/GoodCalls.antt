@@ -13,7 +13,7 @@ use Rattle.requests.specs.declared.bodies.Mark.TheVariants.{Unmarked, Cancelled,
 use Rattle.requests.specs.declared.bodies.Request.{Request}
 use Rattle.robots.specs.Meaning.{Meaning, Sound, count, held_at}
 use Rattle.robots.specs.Acts.{put_refusal, take_refusal, switch_refusal, with_held, with_service}
-use Rattle.movements.specs.Search.{is_drive, of_kind, ports_among, up_to}
+use Rattle.robot_moves.specs.Search.{is_drive, of_kind, ports_among, up_to}
 use Rattle.stock.specs.declared.catalogue.Filed.{Filed}
 use Rattle.stock.specs.Models.{Stocked}
 use Rattle.stock.specs.Starts.{fit}

@@ -11,11 +11,11 @@ use Rattle.requests.specs.declared.bodies.Request.{Request}
 use Rattle.responses.specs.declared.Entry.{Entry}
 use Rattle.responses.specs.RoundTrips.{Entered}
 use Rattle.robots.specs.declared.fault.Fault.{Fault}
-use Rattle.movements.specs.declared.movement.Stopped.{Stopped}
+use Rattle.robot_moves.specs.declared.movement.Stopped.{Stopped}
 use Rattle.robots.specs.Meaning.{Meaning, Sound, count, held_at}
 use Rattle.robots.specs.Acts.{left, set_down, with_held}
-use Rattle.movements.specs.Movement.{Emptying}
-use Rattle.movements.specs.Search.{is_drive, next_full_port, of_kind, ports_among, up_to}
+use Rattle.robot_moves.specs.Movement.{Emptying}
+use Rattle.robot_moves.specs.Search.{is_drive, next_full_port, of_kind, ports_among, up_to}
 use Rattle.stock.specs.declared.catalogue.Filed.{Filed}
 use Rattle.stock.specs.Holding.{held_in}
 use Rattle.stock.specs.Models.{Stocked}

@@ -11,10 +11,10 @@ use Rattle.requests.specs.declared.bodies.Body.TheVariants as body
 use Rattle.requests.specs.declared.bodies.Request.{Request}
 use Rattle.responses.specs.declared.Entry.{Entry}
 use Rattle.ring.specs.Order.{any_of}
-use Rattle.movements.specs.declared.search.Wanted.TheVariants.{FreeCell}
+use Rattle.robot_moves.specs.declared.search.Wanted.TheVariants.{FreeCell}
 use Rattle.robots.specs.Meaning.{Meaning, Sound, count, held_at}
 use Rattle.robots.specs.Acts.{put_refusal, take_refusal, with_held, with_service}
-use Rattle.movements.specs.Search.{is_cell, next_full_port, of_kind, passes}
+use Rattle.robot_moves.specs.Search.{is_cell, next_full_port, of_kind, passes}
 use Rattle.stock.specs.declared.catalogue.Filed.{Filed}
 use Rattle.stock.specs.declared.catalogue.Row.{Row}
 use Rattle.stock.specs.Filing.{volume_of}

@@ -6,11 +6,11 @@ use Rattle.std.proofs.lemmas.Bool.{and_parts, cases_Bool, cond-true, eqb-false}
 use Rattle.std.proofs.lemmas.Bool.Decides.{nat_tests}
 use Rattle.robots.specs.declared.kind.Kind.{Kind}
 use Rattle.robots.specs.declared.kind.Kind.TheVariants.{Cell}
-use Rattle.movements.specs.declared.search.Wanted.{Wanted}
-use Rattle.movements.specs.declared.search.Wanted.TheVariants.{FullPort}
+use Rattle.robot_moves.specs.declared.search.Wanted.{Wanted}
+use Rattle.robot_moves.specs.declared.search.Wanted.TheVariants.{FullPort}
 use Rattle.robots.specs.Meaning.{Meaning, Sound, count, held_at, kind_of}
-use Rattle.movements.specs.Search.{first_of, is_port, next_full_port, of_kind, passes, port_count, ports_among, up_to}
-use Rattle.movements.proofs.Places.{first_passes}
+use Rattle.robot_moves.specs.Search.{first_of, is_port, next_full_port, of_kind, passes, port_count, ports_among, up_to}
+use Rattle.robot_moves.proofs.Places.{first_passes}
 use Rattle.stock.specs.Starts.{fit}
 use Rattle.site.specs.Inventories.{port_at}
 use Rattle.site.proofs.Ways.{port_of}

@@ -18,16 +18,16 @@ use Rattle.responses.specs.Responses.{Told}
 use Rattle.responses.specs.RoundTrips.{Entered, filled}
 use Rattle.robots.specs.declared.kind.Kind.{Kind}
 use Rattle.robots.specs.declared.fault.Fault.{Fault}
-use Rattle.movements.specs.declared.movement.Stopped.{Stopped}
-use Rattle.movements.specs.declared.movement.Stopped.TheVariants.{NoTarget}
-use Rattle.movements.specs.declared.search.Wanted.TheVariants.{FreeCell, FullPort}
+use Rattle.robot_moves.specs.declared.movement.Stopped.{Stopped}
+use Rattle.robot_moves.specs.declared.movement.Stopped.TheVariants.{NoTarget}
+use Rattle.robot_moves.specs.declared.search.Wanted.TheVariants.{FreeCell, FullPort}
 use Rattle.robots.specs.Meaning.{Meaning, Sound, count, held_at}
 use Rattle.robots.specs.Acts.{left, set_refusal, set_down, with_held}
 use Rattle.robots.specs.Cartridges.{cartridges_of}
-use Rattle.movements.specs.Movement.{Emptying, cleared, hand_emptied}
-use Rattle.movements.specs.Search.{next_free_cell, next_full_port, up_to, passes}
+use Rattle.robot_moves.specs.Movement.{Emptying, cleared, hand_emptied}
+use Rattle.robot_moves.specs.Search.{next_free_cell, next_full_port, up_to, passes}
 use Rattle.robots.proofs.Acts.{set_keeps, set_tells}
-use Rattle.movements.proofs.Places.{first_passes}
+use Rattle.robot_moves.proofs.Places.{first_passes}
 use Rattle.stock.specs.declared.refusal.Refusal.{Refusal}
 use Rattle.stock.specs.declared.refusal.Refusal.TheVariants.{BadMakeUp}
 use Rattle.stock.specs.Refusals.{status_of, detail_of}

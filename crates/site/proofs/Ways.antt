@@ -8,13 +8,13 @@ use Rattle.labels.specs.Numbers.{unreadable_number}
 use Rattle.robots.specs.declared.fault.Fault.{Fault}
 use Rattle.robots.specs.declared.kind.Kind.{Kind}
 use Rattle.robots.specs.declared.kind.Kind.TheVariants.{Cell}
-use Rattle.movements.specs.declared.movement.Target.{Target}
-use Rattle.movements.specs.declared.movement.Stopped.{Stopped}
-use Rattle.movements.specs.declared.movement.Stopped.TheVariants.{NoTarget, Refused}
+use Rattle.robot_moves.specs.declared.movement.Target.{Target}
+use Rattle.robot_moves.specs.declared.movement.Stopped.{Stopped}
+use Rattle.robot_moves.specs.declared.movement.Stopped.TheVariants.{NoTarget, Refused}
 use Rattle.robots.specs.Meaning.{Meaning, Sound, count, held_at, serving}
 use Rattle.robots.specs.Acts.{left, lift_refusal, lifted, set_refusal, set_down, with_held}
-use Rattle.movements.specs.Movement.{Movement, movement, lifted_for, brought_to, set_at, sought}
-use Rattle.movements.specs.Search.{is_port, of_kind}
+use Rattle.robot_moves.specs.Movement.{Movement, movement, lifted_for, brought_to, set_at, sought}
+use Rattle.robot_moves.specs.Search.{is_port, of_kind}
 use Rattle.robots.proofs.Acts.{lift_tells, set_tells}
 use Rattle.stock.specs.Holding.{held_in, shown_at}
 use Rattle.site.specs.Inventories.{port_at}

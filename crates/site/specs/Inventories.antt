@@ -2,7 +2,7 @@
 use Rattle.std.specs.Prelude.{ℕ, Bool, true, false, cond, List, [], ◌∷◌, map, Some, None, fold, Option, ◌==◌, slice_index, slice_index_or}
 use Rattle.robots.specs.declared.kind.Kind.{Kind}
 use Rattle.robots.specs.declared.kind.Kind.TheVariants.{Cell}
-use Rattle.movements.specs.Search.{is_port}
+use Rattle.robot_moves.specs.Search.{is_port}
 use Rattle.responses.specs.declared.Entry.{Entry}
 use Rattle.responses.specs.Responses.{Told}
 use Rattle.server.specs.Machine.{Call, Reply, Event}

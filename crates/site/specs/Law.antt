@@ -5,8 +5,8 @@ use Rattle.requests.specs.declared.bodies.Body.{Body}
 use Rattle.requests.specs.declared.bodies.Body.TheVariants as body
 use Rattle.robots.specs.Meaning.{Meaning, count}
 use Rattle.robots.specs.Cartridges.{cartridges_of}
-use Rattle.movements.specs.declared.search.Wanted.TheVariants.{FreeCell}
-use Rattle.movements.specs.Search.{next_full_port, passes}
+use Rattle.robot_moves.specs.declared.search.Wanted.TheVariants.{FreeCell}
+use Rattle.robot_moves.specs.Search.{next_full_port, passes}
 use Rattle.stock.specs.Holding.{shown_at}
 use Rattle.library.specs.Library.{Job, Library, unanswered}
 use Rattle.library.specs.Making.{fresh}

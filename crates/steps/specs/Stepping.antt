@@ -4,7 +4,7 @@ use Rattle.requests.specs.declared.bodies.Request.{Request}
 use Rattle.requests.specs.declared.bodies.Body.{Body}
 use Rattle.requests.specs.declared.bodies.Body.TheVariants as body
 use Rattle.robots.specs.Meaning.{Meaning}
-use Rattle.movements.specs.Search.{next_full_port}
+use Rattle.robot_moves.specs.Search.{next_full_port}
 use Rattle.library.specs.declared.drive.DriveState.{DriveState}
 use Rattle.library.specs.declared.drive.DriveEvent.TheVariants.{Answered}
 use Rattle.library.specs.declared.message.Notice.{Notice}

@@ -9,7 +9,7 @@ use Rattle.requests.specs.declared.bodies.Mark.{Mark}
 use Rattle.requests.specs.declared.bodies.Mark.TheVariants.{Unmarked, Cancelled, Aborted}
 use Rattle.responses.specs.declared.Entry.{Entry}
 use Rattle.robots.specs.Meaning.{Meaning, count}
-use Rattle.movements.specs.Search.{next_full_port}
+use Rattle.robot_moves.specs.Search.{next_full_port}
 use Rattle.stock.specs.declared.refusal.Refusal.{Refusal}
 use Rattle.stock.specs.Refusals.{status_of, detail_of}
 use Rattle.stock.specs.Models.{Stocked}

@@ -3,7 +3,7 @@
 ghost use Rattle.labels.specs.Numbers.{number_of};
 ghost use Rattle.library.specs.Entering.{entries_in};
 ghost use Rattle.library.specs.Turns.{course_of, going_of};
-ghost use Rattle.movements.specs.Search.{next_full_port};
+ghost use Rattle.robot_moves.specs.Search.{next_full_port};
 ghost use Rattle.steps.specs.Turning.{begun, ended_at_once, enter_on, entering, gone_on, idling, quietly, start_on, start_taken};
 ghost use Rattle.stock.specs.Models.{stock_of};
 ghost use Rattle.stock.specs.Starts.{begun as startBegun};

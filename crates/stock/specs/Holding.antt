@@ -3,7 +3,7 @@ use Rattle.std.specs.Prelude.{ℕ, Bool, cond, not, ◌&&◌, List, map, ◌==�
 use Rattle.labels.specs.Numbers.{unreadable_number}
 use Rattle.std.specs.List.{range_with_len}
 use Rattle.robots.specs.Meaning.{Meaning, count, held_at}
-use Rattle.movements.specs.Search.{is_port, of_kind}
+use Rattle.robot_moves.specs.Search.{is_port, of_kind}
 
 -- The cartridge at p; 0 where there is none, or no such place.
 abbrev pub held_in : Meaning → ℕ → ℕ

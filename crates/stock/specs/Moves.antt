@@ -6,13 +6,13 @@ use Rattle.statuses.specs.declared.Status.TheVariants as status
 use Rattle.responses.specs.declared.Entry.{Entry}
 use Rattle.robots.specs.Meaning.{Meaning}
 use Rattle.robots.specs.Acts.{put_in, switched, taken}
-use Rattle.movements.specs.declared.movement.Target.{Target}
-use Rattle.movements.specs.declared.movement.Target.TheVariants.{At, NextCell, LowestPort}
-use Rattle.movements.specs.declared.movement.Moved.{Moved}
-use Rattle.movements.specs.declared.movement.Stopped.{Stopped}
-use Rattle.movements.specs.declared.movement.Stopped.TheVariants.{NoTarget, Refused}
-use Rattle.movements.specs.Search.{is_drive, of_kind}
-use Rattle.movements.specs.Movement.{Movement, movement}
+use Rattle.robot_moves.specs.declared.movement.Target.{Target}
+use Rattle.robot_moves.specs.declared.movement.Target.TheVariants.{At, NextCell, LowestPort}
+use Rattle.robot_moves.specs.declared.movement.Moved.{Moved}
+use Rattle.robot_moves.specs.declared.movement.Stopped.{Stopped}
+use Rattle.robot_moves.specs.declared.movement.Stopped.TheVariants.{NoTarget, Refused}
+use Rattle.robot_moves.specs.Search.{is_drive, of_kind}
+use Rattle.robot_moves.specs.Movement.{Movement, movement}
 use Rattle.stock.specs.declared.catalogue.Filed.{Filed}
 use Rattle.stock.specs.declared.catalogue.Row.{Row}
 use Rattle.stock.specs.declared.catalogue.Volume.{Volume}

@@ -1,10 +1,10 @@
 -- What a start does to the robot and the catalogue.
 use Rattle.std.specs.Prelude.{ℕ, ◌-◌, Bool, true, false, cond, not, ◌&&◌, List, [], Ok, Err, Result, ◌==◌, nat_le}
 use Rattle.robots.specs.Meaning.{Meaning, count}
-use Rattle.movements.specs.declared.movement.Stopped.{Stopped}
-use Rattle.movements.specs.declared.movement.Target.TheVariants.{NextCell}
-use Rattle.movements.specs.Movement.{Emptying, hand_emptied}
-use Rattle.movements.specs.Search.{port_count}
+use Rattle.robot_moves.specs.declared.movement.Stopped.{Stopped}
+use Rattle.robot_moves.specs.declared.movement.Target.TheVariants.{NextCell}
+use Rattle.robot_moves.specs.Movement.{Emptying, hand_emptied}
+use Rattle.robot_moves.specs.Search.{port_count}
 use Rattle.stock.specs.declared.catalogue.Filed.{Filed}
 use Rattle.stock.specs.declared.refusal.Refusal.{Refusal}
 use Rattle.stock.specs.declared.refusal.Refusal.TheVariants.{BadMakeUp}

@@ -1,7 +1,7 @@
 //! What is asked of a stock, and what people do at its places.
 
 ghost use Rattle.std.specs.Prelude.{◌≡◌, ◌<◌, IfSome};
-ghost use Rattle.movements.specs.Search.{is_drive, is_port, next_full_port, of_kind};
+ghost use Rattle.robot_moves.specs.Search.{is_drive, is_port, next_full_port, of_kind};
 ghost use Rattle.robots.specs.Acts.{put_answer, switch_answer, take_answer};
 ghost use Rattle.robots.specs.Meaning.{count};
 ghost use Rattle.stock.specs.Catalogues.{filed_in};
@@ -12,7 +12,7 @@ ghost use Rattle.stock.specs.Moves.{with_put, with_switched, with_taken};
 
 use super::Stock;
 use crate::catalogue::{Catalogue, Volume};
-use movements::search::{is_drive, is_port, next_full_port};
+use robot_moves::search::{is_drive, is_port, next_full_port};
 use robots::fault::Fault;
 use robots::robot::{Questions, Robot};
 

@@ -1,6 +1,6 @@
 //! What moves a cartridge. The catalogue is changed only once the robot has granted the set.
 
-ghost use Rattle.movements.specs.Movement.{movement};
+ghost use Rattle.robot_moves.specs.Movement.{movement};
 ghost use Rattle.stock.specs.Filing.{volume_of};
 ghost use Rattle.stock.specs.Models.{stock_of};
 ghost use Rattle.stock.specs.Moves.{cell_of, dismounted, ejected, entered, entered_new, entry_for, followed, located_by, mounted, moved, why_stopped};
@@ -11,9 +11,9 @@ use crate::catalogue::{Row, Volume};
 use crate::refusal::{Refusal, in_byte};
 use crate::stock::lookups::held;
 use labels::UNREADABLE_NUMBER;
-use movements::movement::{Stopped, Target, move_cartridge};
-use movements::search::is_drive;
 use responses::Entry;
+use robot_moves::movement::{Stopped, Target, move_cartridge};
+use robot_moves::search::is_drive;
 use robots::robot::Robot;
 use statuses::Status;
 

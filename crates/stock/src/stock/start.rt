@@ -11,8 +11,8 @@ use crate::refusal::Refusal;
 use crate::stock::lookups::held;
 use crate::stock::movements::why_stopped;
 use labels::UNREADABLE_NUMBER;
-use movements::movement::{Target, empty_hand};
-use movements::search::{is_port, port_count};
+use robot_moves::movement::{Target, empty_hand};
+use robot_moves::search::{is_port, port_count};
 use robots::robot::{Questions, Robot};
 
 /// Whether the number is that of a label.

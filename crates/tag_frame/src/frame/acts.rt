@@ -57,7 +57,7 @@ impl TagFrame {
         requires handed { hand ≤ unreadable_number }
         ensures { frame_meaning self.new ≡ with_held (frame_meaning self.old) p number hand }
     {
-        let table = mem::replace(&mut self.table, Table::none(self.sites.allocator()));
+        let table = mem::replace(&mut self.table, Table::none(*self.sites.allocator()));
         self.table = table.with(p, number);
         self.hand = hand;
     }
@@ -68,7 +68,7 @@ impl TagFrame {
         requires handed { hand ≤ unreadable_number }
         ensures { frame_meaning self.new ≡ with_held (frame_meaning self.old) p 0 hand }
     {
-        let table = mem::replace(&mut self.table, Table::none(self.sites.allocator()));
+        let table = mem::replace(&mut self.table, Table::none(*self.sites.allocator()));
         self.table = table.without(p);
         self.hand = hand;
     }

@@ -8,7 +8,11 @@ index_mut-requires c = omega (arith, c.args.self.now.places.ok.0, simp length-ma
 
 pub invariant_of-self : goal.invariant_of-self
 invariant_of-self c =
-    (c.args.self.now.few, (still_numbered c.args.self.now.places.items c.args.p _ c.args.self.now.numbered c.requires.numbered, (c.requires.handed, tt)))
+    record {
+      few = c.args.self.now.few;
+      numbered = still_numbered c.args.self.now.places.items c.args.p _ c.args.self.now.numbered c.requires.numbered;
+      handed = c.requires.handed;
+    }
 
 pub returns : goal.returns
 returns c =

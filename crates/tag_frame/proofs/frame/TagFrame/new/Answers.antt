@@ -11,7 +11,7 @@ invariant_of-result c =
     let v = c.in_ok-sites.sites in
     let a = passed xs c.args.hand _ c.in_ok-check_places.ensures in
     let e : vec_len v ≡ length xs = v.ok.0 ∙ ap length c.in_ok-sites.ensures ∙ simp length-map in
-    (omega (arith, a.few), (c.in_ok-table.ensures.0 ∙ sym e, (a.hand_number, tt)))
+    record { few = omega (arith, a.few); tabled = c.in_ok-table.ensures.0 ∙ sym e; handed = a.hand_number }
 
 pub returns : goal.returns
 returns c = (

@@ -16,7 +16,7 @@ invariant_of-result c =
     let v = c.push_reserved.new.self in
     let a : tidy s.count (vec_items v) ≡ true = ap (tidy s.count) c.push_reserved.ensures.items ∙ more_tidy s.count s.tags.items t s.distinct c.requires.within c.requires.empty c.requires.some c.requires.numbered in
     let b : s.count ≤ vec_capacity v = omega (arith, s.room, c.push_reserved.ensures.capacity) in
-    (a, (b, tt))
+    record { distinct = a; room = b }
 
 pub returns : goal.returns
 returns c =

@@ -13,7 +13,7 @@ invariant_of-result c =
     let v = c.remove.new.self in
     let a = fewer_tidy s.count s.tags.items (vec_items v) c.args.p c.find-i.result s.distinct c.find-i.ensures c.remove.ensures.items in
     let b : s.count ≤ vec_capacity v = omega (arith, s.room, c.remove.ensures.capacity) in
-    (a, (b, tt))
+    record { distinct = a; room = b }
 
 pub returns : goal.returns
 returns c =

@@ -1,6 +1,6 @@
 use Rattle.std.proofs.Common.{◌≡◌, ◌+◌, ◌≤◌}
-use Rattle.movements.specs.Search.{ports_among, up_to}
-use Rattle.movements.proofs.search.port_count.Given as goal
+use Rattle.robot_moves.specs.Search.{ports_among, up_to}
+use Rattle.robot_moves.proofs.search.port_count.Given as goal
 
 abbrev pub invariant-loop-i : goal.invariant-loop-i
 invariant-loop-i g l =

@@ -7,16 +7,16 @@ use Rattle.robots.specs.Meaning.{Meaning, Sound, count}
 use Rattle.robots.specs.Acts.{lift_refusal, lifted, set_refusal, set_down, with_held}
 use Rattle.robots.specs.Cartridges.{SameCartridges, cartridges_of}
 use Rattle.robots.proofs.Acts.{lift_keeps, set_keeps}
-use Rattle.movements.specs.declared.slip.token.Slip.{Slip}
-use Rattle.movements.specs.declared.slip.token.Found.{Found}
-use Rattle.movements.specs.declared.search.Wanted.TheVariants.{FreeCell}
-use Rattle.movements.specs.declared.movement.Target.{Target}
-use Rattle.movements.specs.declared.movement.Stopped.TheVariants.{NoTarget, Refused}
-use Rattle.movements.specs.Slips.{slip_from, slip_answer, set_by_slip, found}
-use Rattle.movements.specs.Movement.{Movement, movement, lifted_for, brought_to, set_at, sought, stopped, Emptying, cleared, hand_emptied}
-use Rattle.movements.specs.Search.{next_free_cell, up_to}
-use Rattle.movements.proofs.Places.{first_passes}
-use Rattle.movements.proofs.Returning.{was_granted, granted_value, slip_refused, set_same, back_fits, back_is, lifted_length}
+use Rattle.robot_moves.specs.declared.slip.token.Slip.{Slip}
+use Rattle.robot_moves.specs.declared.slip.token.Found.{Found}
+use Rattle.robot_moves.specs.declared.search.Wanted.TheVariants.{FreeCell}
+use Rattle.robot_moves.specs.declared.movement.Target.{Target}
+use Rattle.robot_moves.specs.declared.movement.Stopped.TheVariants.{NoTarget, Refused}
+use Rattle.robot_moves.specs.Slips.{slip_from, slip_answer, set_by_slip, found}
+use Rattle.robot_moves.specs.Movement.{Movement, movement, lifted_for, brought_to, set_at, sought, stopped, Emptying, cleared, hand_emptied}
+use Rattle.robot_moves.specs.Search.{next_free_cell, up_to}
+use Rattle.robot_moves.proofs.Places.{first_passes}
+use Rattle.robot_moves.proofs.Returning.{was_granted, granted_value, slip_refused, set_same, back_fits, back_is, lifted_length}
 
 missed : (m : Meaning) (p : ℕ) (t : Target) → lift_refusal m p ≡ None → sought t (lifted m p) p ≡ None → movement m p t ≡ stopped NoTarget m
 missed m p t e h = ap (λ (o : Option Fault). lifted_for o t m p) e ∙ ap (λ (o : Option ℕ). brought_to o m p) h

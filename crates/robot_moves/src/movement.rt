@@ -1,7 +1,7 @@
 //! The movement of a cartridge from one place to another.
 
-ghost use Rattle.movements.specs.Movement.{hand_emptied, movement, sought};
-ghost use Rattle.movements.specs.declared.movement.Stopped.TheVariants.{Refused};
+ghost use Rattle.robot_moves.specs.Movement.{hand_emptied, movement, sought};
+ghost use Rattle.robot_moves.specs.declared.movement.Stopped.TheVariants.{Refused};
 ghost use Rattle.robots.specs.Cartridges.{SameCartridges};
 ghost use Rattle.std.specs.Prelude.{◌≡◌};
 

@@ -3,8 +3,8 @@ use Rattle.std.specs.Prelude.{ℕ, cond, Some, None, Ok, Err, Option, Result, �
 use Rattle.robots.specs.declared.fault.Fault.{Fault}
 use Rattle.robots.specs.Meaning.{Meaning}
 use Rattle.robots.specs.Acts.{answered, lift_refusal, set_answer}
-use Rattle.movements.specs.declared.slip.token.Slip.{Slip}
-use Rattle.movements.specs.declared.slip.token.Found.{Found}
+use Rattle.robot_moves.specs.declared.slip.token.Slip.{Slip}
+use Rattle.robot_moves.specs.declared.slip.token.Found.{Found}
 
 -- The slip for a cartridge that was lifted from p.
 abbrev pub slip_from : ℕ → Slip

@@ -1,8 +1,8 @@
 //! Searches for a place, by questions alone.
 
 ghost use Rattle.std.specs.Prelude.{◌≡◌, ◌+◌, ◌<◌, ◌≤◌, IfSome};
-ghost use Rattle.movements.specs.Search.{first_of, is_drive, is_port, lowest_free_port, next_free_cell, next_full_port, of_kind, passes, port_count, up_to};
-ghost use Rattle.movements.specs.declared.search.Wanted.TheVariants.{FreeCell};
+ghost use Rattle.robot_moves.specs.Search.{first_of, is_drive, is_port, lowest_free_port, next_free_cell, next_full_port, of_kind, passes, port_count, up_to};
+ghost use Rattle.robot_moves.specs.declared.search.Wanted.TheVariants.{FreeCell};
 ghost use Rattle.robots.specs.Meaning.{count};
 
 use robots::kind::Kind;

@@ -1,7 +1,7 @@
 use Rattle.std.proofs.Common.{◌≡◌, rules}
-use Rattle.movements.specs.Movement.{movement}
-use Rattle.movements.proofs.Moving.{no_target_fits, no_target, refused_fits, set_refused, movement_keeps}
-use Rattle.movements.proofs.movement.move_cartridge.Goals as goal
+use Rattle.robot_moves.specs.Movement.{movement}
+use Rattle.robot_moves.proofs.Moving.{no_target_fits, no_target, refused_fits, set_refused, movement_keeps}
+use Rattle.robot_moves.proofs.movement.move_cartridge.Goals as goal
 
 pub put_back-requires : goal.put_back-requires
 put_back-requires g c =

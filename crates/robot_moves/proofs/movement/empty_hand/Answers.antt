@@ -1,5 +1,5 @@
-use Rattle.movements.proofs.Moving.{free_fits, hand_emptied_holds}
-use Rattle.movements.proofs.movement.empty_hand.Goals as goal
+use Rattle.robot_moves.proofs.Moving.{free_fits, hand_emptied_holds}
+use Rattle.robot_moves.proofs.movement.empty_hand.Goals as goal
 
 pub set_found-requires : goal.set_found-requires
 set_found-requires g c =

@@ -1,9 +1,9 @@
 use Rattle.std.proofs.Common.{◌+◌, rules}
 use Rattle.robots.specs.Meaning.{count}
-use Rattle.movements.specs.declared.search.Wanted.TheVariants.{FreeCell}
-use Rattle.movements.specs.Search.{up_to}
-use Rattle.movements.proofs.Places.{from_past, first_here, first_then}
-use Rattle.movements.proofs.search.next_free_cell.Goals as goal
+use Rattle.robot_moves.specs.declared.search.Wanted.TheVariants.{FreeCell}
+use Rattle.robot_moves.specs.Search.{up_to}
+use Rattle.robot_moves.proofs.Places.{from_past, first_here, first_then}
+use Rattle.robot_moves.proofs.search.next_free_cell.Goals as goal
 
 pub returns-then-p-n : goal.returns-then-p-n
 returns-then-p-n g c =

@@ -1,7 +1,7 @@
 //! A lift gives a slip, which is spent where the cartridge is set down or put back.
 
-ghost use Rattle.movements.specs.Search.{next_free_cell};
-ghost use Rattle.movements.specs.Slips.{found, set_by_slip, slip_answer};
+ghost use Rattle.robot_moves.specs.Search.{next_free_cell};
+ghost use Rattle.robot_moves.specs.Slips.{found, set_by_slip, slip_answer};
 ghost use Rattle.robots.specs.Acts.{lifted, set_down, set_refusal, with_held};
 ghost use Rattle.std.specs.Prelude.{◌≡◌, None};
 

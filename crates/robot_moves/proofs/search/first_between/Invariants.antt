@@ -1,6 +1,6 @@
 use Rattle.std.proofs.Common.{◌≡◌}
-use Rattle.movements.specs.Search.{first_of, up_to}
-use Rattle.movements.proofs.search.first_between.Given as goal
+use Rattle.robot_moves.specs.Search.{first_of, up_to}
+use Rattle.robot_moves.proofs.search.first_between.Given as goal
 
 abbrev pub invariant-loop-i : goal.invariant-loop-i
 invariant-loop-i g l =

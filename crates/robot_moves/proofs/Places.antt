@@ -3,9 +3,9 @@ use Rattle.std.proofs.Common.{◌≡◌, ℕ, zero, suc, ◌+◌, ◌-◌, ◌<�
 use Rattle.std.proofs.lemmas.Bool.{le-ltb, cases_Bool}
 use Rattle.std.specs.List.{range_with_len}
 use Rattle.robots.specs.Meaning.{Meaning, count}
-use Rattle.movements.specs.declared.search.Wanted.{Wanted}
-use Rattle.movements.specs.declared.search.Wanted.TheVariants.{FreeCell, FreePort, FullPort}
-use Rattle.movements.specs.Search.{passes, first_of, next_free_cell, of_kind, is_port, ports_among, up_to}
+use Rattle.robot_moves.specs.declared.search.Wanted.{Wanted}
+use Rattle.robot_moves.specs.declared.search.Wanted.TheVariants.{FreeCell, FreePort, FullPort}
+use Rattle.robot_moves.specs.Search.{passes, first_of, next_free_cell, of_kind, is_port, ports_among, up_to}
 
 -- One turn of a loop over places, and its end.
 pub up_to_more : (a b : ℕ) → a < b → up_to a b ≡ a ∷ up_to (a + 1) b

@@ -1,6 +1,6 @@
 use Rattle.std.proofs.Common.{rules}
-use Rattle.movements.proofs.Places.{ports_more}
-use Rattle.movements.proofs.search.port_count.Goals as goal
+use Rattle.robot_moves.proofs.Places.{ports_more}
+use Rattle.robot_moves.proofs.search.port_count.Goals as goal
 
 pub loop-i-preserved : goal.loop-i-preserved
 loop-i-preserved g c =

@@ -4,8 +4,8 @@ use Rattle.std.specs.List.{range_with_len}
 use Rattle.robots.specs.declared.kind.Kind.{Kind}
 use Rattle.robots.specs.declared.kind.Kind.TheVariants.{Cell, Drive, Port}
 use Rattle.robots.specs.Meaning.{Meaning, count, kind_of, held_at, serving}
-use Rattle.movements.specs.declared.search.Wanted.{Wanted}
-use Rattle.movements.specs.declared.search.Wanted.TheVariants.{FreeCell, FreePort, FullPort}
+use Rattle.robot_moves.specs.declared.search.Wanted.{Wanted}
+use Rattle.robot_moves.specs.declared.search.Wanted.TheVariants.{FreeCell, FreePort, FullPort}
 
 -- Tests of a kind.
 abbrev pub is_cell : Kind → Bool

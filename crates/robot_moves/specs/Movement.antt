@@ -3,12 +3,12 @@ use Rattle.std.specs.Prelude.{â„•, cond, Some, None, Ok, Err, Option, Result, â—
 use Rattle.robots.specs.declared.fault.Fault.{Fault}
 use Rattle.robots.specs.Meaning.{Meaning, held_at}
 use Rattle.robots.specs.Acts.{lift_refusal, lifted, set_refusal, set_down}
-use Rattle.movements.specs.declared.movement.Target.{Target}
-use Rattle.movements.specs.declared.movement.Target.TheVariants.{At, NextCell, LowestPort}
-use Rattle.movements.specs.declared.movement.Moved.{Moved}
-use Rattle.movements.specs.declared.movement.Stopped.{Stopped}
-use Rattle.movements.specs.declared.movement.Stopped.TheVariants.{NoTarget, Refused}
-use Rattle.movements.specs.Search.{next_free_cell, lowest_free_port}
+use Rattle.robot_moves.specs.declared.movement.Target.{Target}
+use Rattle.robot_moves.specs.declared.movement.Target.TheVariants.{At, NextCell, LowestPort}
+use Rattle.robot_moves.specs.declared.movement.Moved.{Moved}
+use Rattle.robot_moves.specs.declared.movement.Stopped.{Stopped}
+use Rattle.robot_moves.specs.declared.movement.Stopped.TheVariants.{NoTarget, Refused}
+use Rattle.robot_moves.specs.Search.{next_free_cell, lowest_free_port}
 
 -- What a movement answers, and the robot after it.
 pub record Movement : Type 0 where

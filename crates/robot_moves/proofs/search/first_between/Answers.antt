@@ -1,6 +1,6 @@
 use Rattle.std.proofs.Common.{sym, ◌∙◌}
-use Rattle.movements.proofs.Places.{first_hit, first_miss, first_none}
-use Rattle.movements.proofs.search.first_between.Goals as goal
+use Rattle.robot_moves.proofs.Places.{first_hit, first_miss, first_none}
+use Rattle.robot_moves.proofs.search.first_between.Goals as goal
 
 pub returns-then-is_wanted : goal.returns-then-is_wanted
 returns-then-is_wanted g c =

@@ -1,5 +1,5 @@
 ghost use Rattle.std.specs.Prelude.{◌≡◌, ◌<◌};
-ghost use Rattle.movements.specs.Slips.{found_in_hand, slip_from};
+ghost use Rattle.robot_moves.specs.Slips.{found_in_hand, slip_from};
 
 /// Held for a cartridge in the hand, until it is set down or put back.
 pub struct Slip {
