@@ -3,8 +3,8 @@ use Rattle.std.specs.Prelude.{◌≡◌, false, length, Some, None, Option}
 use Rattle.ring.specs.Queue.{Sound, records}
 use Rattle.robots.specs.Meaning.{Meaning}
 use Rattle.stock.specs.Models.{stock_of}
-use Rattle.library.specs.declared.core.Work.{Work}
-use Rattle.library.specs.declared.core.Core.{Core}
+use Rattle.library.specs.declared.cores.Work.{Work}
+use Rattle.library.specs.declared.cores.Core.{Core}
 use Rattle.library.specs.Entering.{entries_in}
 use Rattle.library.specs.Library.{Job, Library}
 

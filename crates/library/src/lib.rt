@@ -2,7 +2,7 @@
 
 #![tactic(auto)]
 
-pub mod core;
+pub mod cores;
 pub mod drive;
 pub mod entries;
 pub mod marks;

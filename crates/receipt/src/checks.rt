@@ -5,7 +5,7 @@ ghost use Rattle.receipt.specs.Checking.{body_refusal, can_cancel, cancel_refusa
 ghost use Rattle.std.specs.Prelude.{◌≡◌};
 
 use crate::refusal::NotReceived;
-use library::core::{Core, Work};
+use library::cores::{Core, Work};
 use library::marks::{Cancel, cancels};
 use library::state::State;
 use requests::{Body, DriveSetting};

@@ -12,7 +12,7 @@ ghost use Rattle.std.specs.Prelude.{◌≡◌};
 use crate::checks::check;
 use crate::refusal::NotReceived;
 use labels::Label;
-use library::core::{Core, Work};
+use library::cores::{Core, Work};
 use library::drive::DriveEvent;
 use library::marks::{Abort, Cancel, Names};
 use library::message::Notice;

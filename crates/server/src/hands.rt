@@ -6,7 +6,7 @@ ghost use Rattle.server.specs.Hands.{entering, put_call, put_if, reach, service_
 ghost use Rattle.std.specs.Prelude.{◌≡◌, true, None};
 
 use crate::refusal::{CallRefusal, why_not_put, why_not_taken};
-use library::core::{Core, Work};
+use library::cores::{Core, Work};
 use requests::Body;
 use robots::robot::Robot;
 

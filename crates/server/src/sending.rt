@@ -8,7 +8,7 @@ ghost use Rattle.responses.specs.Writing.{left};
 ghost use Rattle.server.specs.Answers.{acknowledgeTold, badTold, finalTold, lengthIn, saidTold};
 ghost use Rattle.stock.specs.Models.{stock_of};
 
-use library::core::Core;
+use library::cores::Core;
 use library::verdict::{Final, Tail};
 use receipt::receive::Answer;
 use requests::{BadPacket, Request};

@@ -1,6 +1,6 @@
 ghost use Rattle.library.specs.Cores.{Live};
 
-use library::core::Core;
+use library::cores::Core;
 
 pub mod calls;
 pub mod door;

@@ -8,7 +8,7 @@ ghost use Rattle.steps.specs.Stepping.{closing_notice, drive_answered, drive_ans
 ghost use Rattle.stock.specs.Models.{stock_of};
 ghost use Rattle.std.specs.Prelude.{◌≡◌};
 
-use library::core::{Core, Work};
+use library::cores::{Core, Work};
 use library::drive::DriveEvent;
 use library::marks::Names;
 use library::message::Notice;

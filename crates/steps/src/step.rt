@@ -13,7 +13,7 @@ ghost use Rattle.stock.specs.Models.{stock_of};
 use crate::finish::finish;
 use crate::marked::{end_aborted, end_cancelled};
 use crate::turns::{begin, go_on};
-use library::core::{Core, Work};
+use library::cores::{Core, Work};
 use library::entries::Entries;
 use library::state::State;
 use library::turn::Turn;

@@ -9,7 +9,7 @@ use super::Serving;
 use crate::hands::{put, switch, take};
 use crate::refusal::CallRefusal;
 use crate::sending::{send_answer, send_bad_packet, send_final};
-use library::core::{Core, Work};
+use library::cores::{Core, Work};
 use library::marks::Numbered;
 use library::message::Message;
 use receipt::receive::receive;
