@@ -1,7 +1,7 @@
 #!/usr/bin/env python3
 """Spells the repository's own definitions, lemmas, record fields and ghost members in snake case.
 
-usage: python3 tools/spell_names.py [ROOT]    once, right after the kit's own respelling of an older repository
+usage: python3 tools/spell_names.py [ROOT]    once, right after the kit's own respelling of an older repository (a second time would respell LEMMAS again)
 
 Names that begin with a capital (types, modules, variants) stay. Functions of src/ stay, since they are
 in snake case already. Names that the check makes up (goals, steps) stay, since no file defines them.
@@ -34,6 +34,11 @@ def files(root):
                 yield os.path.join(folder, n)
 
 
+def answers(path):
+    """Whether a file answers what the check asks, by the names that the check makes up."""
+    return os.path.basename(path) in MADE and os.sep + "proofs" + os.sep in path
+
+
 def snake(name):
     name = re.sub(r"(?<=[a-z0-9])([A-Z])", lambda m: "_" + m[1].lower(), name)
     return name.replace("-", "_").lower()
@@ -43,7 +48,7 @@ def defined(path, text):
     """The names that a file defines: of specs/ and lemma files, at the margin and as fields of records; of src/, ghost members."""
     if path.endswith(".rt"):
         return {m[1] for l in text.split("\n") if (m := GHOST.match(l))}
-    if os.path.basename(path) in MADE:
+    if answers(path):
         return set()
     out, inside = set(), False
     for l in text.split("\n"):
@@ -84,7 +89,7 @@ def main(argv):
         return 0
     for p, t in texts.items():
         # The names that the check makes up stand behind 'goal.' or at the margin of a file of answers.
-        made = os.path.basename(p) in MADE
+        made = answers(p)
         out = []
 
         def respell(m, code):

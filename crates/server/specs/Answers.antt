@@ -20,42 +20,42 @@ use Rattle.receipt.specs.Accepting.{Said}
 use Rattle.receipt.specs.Accepting.Said.{acknowledged, final}
 
 -- The number of a request's command.
-abbrev pub commandOf : Request → ℕ
-commandOf q = (row (command_in q.body)).number
+abbrev pub command_of : Request → ℕ
+command_of q = (row (command_in q.body)).number
 
 -- The final that refuses a packet.
-abbrev pub badTold : BadPacket → Told
-badTold bad = held bad.number bad.command Final (cause_status bad.cause) (cause_detail bad.cause) None None
+abbrev pub bad_told : BadPacket → Told
+bad_told bad = held bad.number bad.command Final (cause_status bad.cause) (cause_detail bad.cause) None None
 
 -- An acknowledge.
-abbrev pub acknowledgeTold : Request → Told
-acknowledgeTold q = held (Some q.number) (Some (command_of q)) Acknowledge Success None None None
+abbrev pub acknowledge_told : Request → Told
+acknowledge_told q = held (Some q.number) (Some (command_of q)) Acknowledge Success None None None
 
 -- A final; an inventory is that of the robot as it is then.
-abbrev pub shownEntries : Shown → Option (List Entry)
-shownEntries nothing = None
-shownEntries (listed es) = Some es
-shownEntries inventory = None
+abbrev pub shown_entries : Shown → Option (List Entry)
+shown_entries nothing = None
+shown_entries (listed es) = Some es
+shown_entries inventory = None
 
-abbrev pub shownInventory : Shown → Meaning → Option (List ℕ)
-shownInventory nothing m = None
-shownInventory (listed es) m = None
-shownInventory inventory m = Some (inventory_of m)
+abbrev pub shown_inventory : Shown → Meaning → Option (List ℕ)
+shown_inventory nothing m = None
+shown_inventory (listed es) m = None
+shown_inventory inventory m = Some (inventory_of m)
 
-abbrev pub finalTold : FinalFor → Meaning → Told
-finalTold f m =
+abbrev pub final_told : FinalFor → Meaning → Told
+final_told f m =
     final_with (Some f.request.number) (Some (command_of f.request)) f.ending.status f.ending.detail
-    (shownEntries f.ending.shown) (shownInventory f.ending.shown m)
+    (shown_entries f.ending.shown) (shown_inventory f.ending.shown m)
 
 -- What a received request is told.
-abbrev pub saidTold : Said → Meaning → Told
-saidTold (acknowledged q) m = acknowledgeTold q
-saidTold (final f) m = finalTold f m
+abbrev pub said_told : Said → Meaning → Told
+said_told (acknowledged q) m = acknowledge_told q
+said_told (final f) m = final_told f m
 
 -- The length of a response in a buffer that held xs; what cannot be written has none.
-abbrev pub lengthBy : Result ℕ Unwritable → ℕ
-lengthBy (Ok n) = n
-lengthBy (Err why) = 0
+abbrev pub length_by : Result ℕ Unwritable → ℕ
+length_by (Ok n) = n
+length_by (Err why) = 0
 
-abbrev pub lengthIn : List ℕ → Told → ℕ
-lengthIn xs t = lengthBy (answer (length xs) t)
+abbrev pub length_in : List ℕ → Told → ℕ
+length_in xs t = length_by (answer (length xs) t)

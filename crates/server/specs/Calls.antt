@@ -12,7 +12,7 @@ use Rattle.receipt.specs.Accepting.{Received, received}
 use Rattle.steps.specs.Stepping.{Stepped, stepped}
 use Rattle.server.specs.declared.refusal.CallRefusal.{CallRefusal}
 use Rattle.server.specs.declared.refusal.CallRefusal.TheVariants.{ShortBuffer, NumberInUse}
-use Rattle.server.specs.Answers.{badTold, finalTold, lengthIn, saidTold}
+use Rattle.server.specs.Answers.{bad_told, final_told, length_in, said_told}
 
 pub record Outcome : Type 0 where
   pub answer : Result ℕ CallRefusal
@@ -25,7 +25,7 @@ refused_call why xs l = record { answer = Err why; buffer = xs; library = l }
 
 -- A response is written at the front of the buffer.
 abbrev pub wrote : Told → List ℕ → Library → Outcome
-wrote t xs l = record { answer = Ok (lengthIn xs t); buffer = left t xs; library = l }
+wrote t xs l = record { answer = Ok (length_in xs t); buffer = left t xs; library = l }
 
 -- Whether the request at work has the number n.
 abbrev pub work_has : Option Job → ℕ → Bool
@@ -47,10 +47,10 @@ used_by l (Some n) = in_use l n
 
 -- A packet that is no request is refused by a final, and a request is answered.
 abbrev pub said_outcome : Received → List ℕ → Outcome
-said_outcome r xs = wrote (saidTold r.said r.library.stock.robot) xs r.library
+said_outcome r xs = wrote (said_told r.said r.library.stock.robot) xs r.library
 
 abbrev pub answered_read : Result Request BadPacket → List ℕ → Library → Outcome
-answered_read (Err bad) xs l = wrote (badTold bad) xs l
+answered_read (Err bad) xs l = wrote (bad_told bad) xs l
 answered_read (Ok q) xs l = said_outcome (received q l) xs
 
 -- Receive: a short buffer is refused, then a number in use.
@@ -65,7 +65,7 @@ receive_call packet xs l = receive_read (request_in packet) xs l
 -- Step: a short buffer is refused; a final is written, or nothing, which has the length 0.
 abbrev pub step_writes : Option FinalFor → List ℕ → Library → Outcome
 step_writes None xs l = record { answer = Ok 0; buffer = xs; library = l }
-step_writes (Some f) xs l = wrote (finalTold f l.stock.robot) xs l
+step_writes (Some f) xs l = wrote (final_told f l.stock.robot) xs l
 
 abbrev pub step_outcome : Stepped → List ℕ → Outcome
 step_outcome s xs = step_writes s.final xs s.library

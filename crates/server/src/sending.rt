@@ -5,7 +5,7 @@ ghost use Rattle.library.specs.Finals.{final_of};
 ghost use Rattle.receipt.specs.Accepting.{said_by};
 ghost use Rattle.responses.specs.Responses.{told};
 ghost use Rattle.responses.specs.Writing.{left};
-ghost use Rattle.server.specs.Answers.{acknowledgeTold, badTold, finalTold, lengthIn, saidTold};
+ghost use Rattle.server.specs.Answers.{acknowledge_told, bad_told, final_told, length_in, said_told};
 ghost use Rattle.stock.specs.Models.{stock_of};
 
 use library::cores::Core;
@@ -18,7 +18,7 @@ use statuses::Status;
 
 /// Writes the response, and tells its length.
 fn send(response: &Response, buffer: &mut [u8]) -> usize
-    ensures length { result ≡ lengthIn buffer.old (told response.now) }
+    ensures length { result ≡ length_in buffer.old (told response.now) }
     ensures after { buffer.new ≡ left (told response.now) buffer.old }
     ensures bound { result ≤ 2048 }
 {
@@ -30,8 +30,8 @@ fn send(response: &Response, buffer: &mut [u8]) -> usize
 
 /// Writes the final that refuses a packet.
 pub fn send_bad_packet(bad: BadPacket, buffer: &mut [u8]) -> usize
-    ensures length { result ≡ lengthIn buffer.old (badTold bad) }
-    ensures after { buffer.new ≡ left (badTold bad) buffer.old }
+    ensures length { result ≡ length_in buffer.old (bad_told bad) }
+    ensures after { buffer.new ≡ left (bad_told bad) buffer.old }
     ensures bound { result ≤ 2048 }
 {
     let response = Response::plain(
@@ -45,8 +45,8 @@ pub fn send_bad_packet(bad: BadPacket, buffer: &mut [u8]) -> usize
 }
 
 fn send_acknowledge(request: Request, buffer: &mut [u8]) -> usize
-    ensures length { result ≡ lengthIn buffer.old (acknowledgeTold request) }
-    ensures after { buffer.new ≡ left (acknowledgeTold request) buffer.old }
+    ensures length { result ≡ length_in buffer.old (acknowledge_told request) }
+    ensures after { buffer.new ≡ left (acknowledge_told request) buffer.old }
     ensures bound { result ≤ 2048 }
 {
     let command = request.body.command().code();
@@ -62,8 +62,8 @@ fn send_acknowledge(request: Request, buffer: &mut [u8]) -> usize
 
 /// Writes a final; an inventory is asked of the robot now.
 pub fn send_final<R: Robot>(core: &Core<R>, ended: Final, buffer: &mut [u8]) -> usize
-    ensures length { result ≡ lengthIn buffer.old (finalTold (final_of ended) (stock_of R.Questions.meaning core.now.stock).robot) }
-    ensures after { buffer.new ≡ left (finalTold (final_of ended) (stock_of R.Questions.meaning core.now.stock).robot) buffer.old }
+    ensures length { result ≡ length_in buffer.old (final_told (final_of ended) (stock_of R.Questions.meaning core.now.stock).robot) }
+    ensures after { buffer.new ≡ left (final_told (final_of ended) (stock_of R.Questions.meaning core.now.stock).robot) buffer.old }
     ensures bound { result ≤ 2048 }
 {
     let number = Some(ended.request.number);
@@ -97,8 +97,8 @@ pub fn send_final<R: Robot>(core: &Core<R>, ended: Final, buffer: &mut [u8]) -> 
 
 /// Writes what a received request is answered.
 pub fn send_answer<R: Robot>(core: &Core<R>, answer: Answer, buffer: &mut [u8]) -> usize
-    ensures length { result ≡ lengthIn buffer.old (saidTold (said_by answer) (stock_of R.Questions.meaning core.now.stock).robot) }
-    ensures after { buffer.new ≡ left (saidTold (said_by answer) (stock_of R.Questions.meaning core.now.stock).robot) buffer.old }
+    ensures length { result ≡ length_in buffer.old (said_told (said_by answer) (stock_of R.Questions.meaning core.now.stock).robot) }
+    ensures after { buffer.new ≡ left (said_told (said_by answer) (stock_of R.Questions.meaning core.now.stock).robot) buffer.old }
     ensures bound { result ≤ 2048 }
 {
     match answer {

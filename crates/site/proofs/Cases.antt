@@ -20,7 +20,7 @@ use Rattle.receipt.specs.Checking.{refusal_of}
 use Rattle.steps.specs.Stepping.{Stepped, stepped}
 use Rattle.server.specs.declared.refusal.CallRefusal.{CallRefusal}
 use Rattle.server.specs.declared.refusal.CallRefusal.TheVariants as refusal
-use Rattle.server.specs.Answers.{badTold}
+use Rattle.server.specs.Answers.{bad_told}
 use Rattle.server.specs.Calls.{Outcome, refused_call, receive_call, receive_read, step_call, step_outcome, said_outcome, wrote, used_by, number_read, in_use, answered_read}
 use Rattle.server.specs.Hands.{Handled, told_by, reach, put_call, put_if, take_call, take_if, service_call, why_not_put, why_not_taken, no_such_place, with_stock}
 use Rattle.server.specs.Machine.{After, Reply, replied, handled_as, is_granted, blank, when_shut, when_open, barred_call}
@@ -48,7 +48,7 @@ module _ (P : After → Type 0) (l : Library) (n : ℕ) (deny : (why : CallRefus
   room e = let h = ltb-false (length (blank n)) 2048 e in omega (arith, length-replicate {A = ℕ} n 0)
 
   read-cases : (r : Result Request BadPacket) (b : Bool) → used_by l (number_read r) ≡ b
-      → ((bad : BadPacket) → r ≡ Err bad → P (replied (wrote (badTold bad) (blank n) l)))
+      → ((bad : BadPacket) → r ≡ Err bad → P (replied (wrote (bad_told bad) (blank n) l)))
       → ((q : Request) → r ≡ Ok q → in_use l q.number ≡ false → P (replied (said_outcome (received q l) (blank n))))
       → P (replied (cond b (refused_call refusal.NumberInUse (blank n) l) (answered_read r (blank n) l)))
   read-cases r true e f g = deny refusal.NumberInUse
@@ -56,14 +56,14 @@ module _ (P : After → Type 0) (l : Library) (n : ℕ) (deny : (why : CallRefus
   read-cases (Ok q) false e f g = g q refl e
 
   short-cases : (r : Result Request BadPacket) (b : Bool) → ltb (length (blank n)) 2048 ≡ b
-      → (2048 ≤ n → (bad : BadPacket) → r ≡ Err bad → P (replied (wrote (badTold bad) (blank n) l)))
+      → (2048 ≤ n → (bad : BadPacket) → r ≡ Err bad → P (replied (wrote (bad_told bad) (blank n) l)))
       → (2048 ≤ n → (q : Request) → r ≡ Ok q → in_use l q.number ≡ false → P (replied (said_outcome (received q l) (blank n))))
       → P (replied (cond b (refused_call refusal.ShortBuffer (blank n) l) (cond (used_by l (number_read r)) (refused_call refusal.NumberInUse (blank n) l) (answered_read r (blank n) l))))
   short-cases r true e f g = deny refusal.ShortBuffer
   short-cases r false e f g = read-cases r (used_by l (number_read r)) refl (f (room e)) (g (room e))
 
   pub receive-cases : (packet : List ℕ)
-      → (2048 ≤ n → (bad : BadPacket) → request_in packet ≡ Err bad → P (replied (wrote (badTold bad) (blank n) l)))
+      → (2048 ≤ n → (bad : BadPacket) → request_in packet ≡ Err bad → P (replied (wrote (bad_told bad) (blank n) l)))
       → (2048 ≤ n → (q : Request) → request_in packet ≡ Ok q → in_use l q.number ≡ false → P (replied (said_outcome (received q l) (blank n))))
       → P (replied (receive_call packet (blank n) l))
   receive-cases packet f g = short-cases (request_in packet) (ltb (length (blank n)) 2048) refl f g

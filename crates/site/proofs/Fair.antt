@@ -42,7 +42,7 @@ use Rattle.steps.specs.Stepping.{Stepped, final_after, finished, stepped, steppe
 use Rattle.steps.specs.Turning.{continued, taken}
 use Rattle.server.specs.declared.refusal.CallRefusal.{CallRefusal}
 use Rattle.server.specs.declared.refusal.CallRefusal.TheVariants.{EnterAtWork, NotPort, NoPlace}
-use Rattle.server.specs.Answers.{acknowledgeTold, badTold, finalTold, saidTold, shownEntries}
+use Rattle.server.specs.Answers.{acknowledge_told, bad_told, final_told, said_told, shown_entries}
 use Rattle.server.specs.Calls.{in_use, work_has, said_outcome, step_outcome, step_writes, wrote}
 use Rattle.server.specs.Door.{message_call, open_call, shut_call}
 use Rattle.server.specs.Hands.{entering, is_enter, reach}
@@ -189,7 +189,7 @@ module _ (g : Request → Request) (mark : Marking g) where
 
 -- A final of receive.
 abbrev Neutral : Ending → Type 0
-Neutral e = (ks : List Kind) (i : Inventory) → changed_by ks i (all (shownEntries e.shown)) ≡ i
+Neutral e = (ks : List Kind) (i : Inventory) → changed_by ks i (all (shown_entries e.shown)) ≡ i
 
 module _ (l : Library) (packet : List ℕ) (n : ℕ) (long : 2048 ≤ n) where
   abbrev c : Call
@@ -238,10 +238,10 @@ module _ (l : Library) (packet : List ℕ) (n : ℕ) (long : 2048 ≤ n) where
   -- A request that is acknowledged.
   fair-queued : (q : Request) → in_use l q.number ≡ false → Fair l c (replied (said_outcome (record { said = said-taken q; library = with_queued q l }) (blank n)))
   fair-queued q free =
-      let w : Writable (acknowledgeTold q) = record { few = omega arith; places = omega arith; sound = record { entries = tt; inventory = tt } } in
+      let w : Writable (acknowledge_told q) = record { few = omega arith; places = omega arith; sound = record { entries = tt; inventory = tt } } in
       record {
-        h = Some (filled (acknowledgeTold q));
-        hears = heard-wrote (acknowledgeTold q) (blank n) (blank-length (λ a. Unit {0}) l n (λ why. tt) long) w (with_queued q l);
+        h = Some (filled (acknowledge_told q));
+        hears = heard-wrote (acknowledge_told q) (blank n) (blank-length (λ a. Unit {0}) l n (λ why. tt) long) w (with_queued q l);
         counts = λ k x. refl;
         kinds = refl;
         order = sym (map-append (λ (y : Request). y.number) (unanswered l) (q ∷ [])) ∙ ap numbers_of (append_assoc (working l.work) l.waiting (q ∷ []));
@@ -258,7 +258,7 @@ module _ (l : Library) (packet : List ℕ) (n : ℕ) (long : 2048 ≤ n) where
       → (l' : Library) → l'.work ≡ at_work g l.work → l'.waiting ≡ map g l.waiting → l'.door ≡ l.door → l'.stock ≡ l.stock → Fair l c (replied (said_outcome (answering q e l') (blank n)))
   fair-plain q e none g mark l' ew eq ed es =
       subst⁻¹ (λ (x : Shown). Fair l c (replied (said_outcome (answering q (record { status = e.status; detail = e.detail; shown = x }) l') (blank n)))) none
-      (fair-marked g mark (finalTold (record { request = q; ending = record { status = e.status; detail = e.detail; shown = nothing } }) l'.stock.robot) (record { few = omega arith; places = omega arith; sound = record { entries = tt; inventory = tt } }) refl (λ ks i. refl) l' ew eq ed es)
+      (fair-marked g mark (final_told (record { request = q; ending = record { status = e.status; detail = e.detail; shown = nothing } }) l'.stock.robot) (record { few = omega arith; places = omega arith; sound = record { entries = tt; inventory = tt } }) refl (λ ks i. refl) l' ew eq ed es)
 
   fair-refused : (q : Request) (why : NotReceived) → Fair l c (replied (said_outcome (not_received q why l) (blank n)))
   fair-refused q why = fair-plain q _ refl (λ x. x) (record { number = λ x. refl; body = λ x. refl }) l (at_same l.work) (map_same l.waiting) refl refl
@@ -272,7 +272,7 @@ module _ (l : Library) (packet : List ℕ) (n : ℕ) (long : 2048 ≤ n) where
   fair-found q k (Ok x) good =
       let g = good x refl in
       let e : Entry = entry_for k x.place x.place Success in
-      fair-told (finalTold (record { request = q; ending = done_with (listed (e ∷ [])) }) l.stock.robot) (record { few = omega arith; places = omega arith; sound = record { entries = (g.0, g.1, tt); inventory = tt } }) refl
+      fair-told (final_told (record { request = q; ending = done_with (listed (e ∷ [])) }) l.stock.robot) (record { few = omega arith; places = omega arith; sound = record { entries = (g.0, g.1, tt); inventory = tt } }) refl
       (λ ks i. unchanged ks i k x.place Success) l refl refl refl refl
 
   fair-queried : (q : Request) (label : Option Label) → ((known : Label) → label ≡ Some known → (x : Row) → located_by (volume_of l.stock.filed (number_of known.chars)) ≡ Ok x → (1 ≤ number_of known.chars) × (number_of known.chars ≤ unreadable_number)) → Fair l c (replied (said_outcome (answering q (queried label l) l) (blank n)))
@@ -294,8 +294,8 @@ module _ (l : Library) (packet : List ℕ) (n : ℕ) (long : 2048 ≤ n) where
   fair-accepted body.Start q free good = fair-queue q free
   fair-accepted (body.Vary drive set) q free good = fair-plain q _ refl (λ x. x) (record { number = λ x. refl; body = λ x. refl }) (with_varied drive set l) (at_same l.work) (map_same l.waiting) refl refl
 
-  pub fair-bad : (bad : BadPacket) → Fair l c (replied (wrote (badTold bad) (blank n) l))
-  fair-bad bad = fair-told (badTold bad) (record { few = omega arith; places = omega arith; sound = record { entries = tt; inventory = tt } }) refl (λ ks i. refl) l refl refl refl refl
+  pub fair-bad : (bad : BadPacket) → Fair l c (replied (wrote (bad_told bad) (blank n) l))
+  fair-bad bad = fair-told (bad_told bad) (record { few = omega arith; places = omega arith; sound = record { entries = tt; inventory = tt } }) refl (λ ks i. refl) l refl refl refl refl
 
 -- Nothing reads as nothing, and what reads was written.
 pub reads_none : response_in [] ≡ None
@@ -325,7 +325,7 @@ module _ (l : Library) (n : ℕ) (long : 2048 ≤ n) (old qs : List Request) (w 
   }
   fair-going t (ends v) e shut proper =
       let f : FinalFor = record { request = q; ending = v } in
-      let told-now = finalTold f t.stock.robot in
+      let told-now = final_told f t.stock.robot in
       let w = writable_final f t.stock.robot proper.sound (subst GoingGood e proper.shown) in
       let heard-now = heard-wrote told-now (blank n) (blank-length (λ a. Unit {0}) l n (λ why. tt) long) w (finished l qs q t).library in
       record {

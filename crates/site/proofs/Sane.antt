@@ -15,7 +15,7 @@ use Rattle.library.specs.Turns.Going.{stays, ends}
 use Rattle.library.specs.Verdicts.{Ending}
 use Rattle.library.specs.Finals.{FinalFor}
 use Rattle.steps.specs.Stepping.{work_after}
-use Rattle.server.specs.Answers.{finalTold}
+use Rattle.server.specs.Answers.{final_told}
 use Rattle.server.specs.Hands.{is_enter}
 use Rattle.site.specs.Hearing.{succeeds_in}
 use Rattle.site.specs.Inventories.{Inventory, changed_by, entries_in, told, told_more}
@@ -49,7 +49,7 @@ now_started is_step st h = cond (is_step && succeeds_in h) true st
 
 -- What a step is heard to say.
 abbrev pub final_heard : Request → Ending → Meaning → Told
-final_heard q v m = filled (finalTold (record { request = q; ending = v }) m)
+final_heard q v m = filled (final_told (record { request = q; ending = v }) m)
 
 abbrev pub heard_end : Going → Request → Meaning → Option Told
 heard_end (stays p es) q m = None

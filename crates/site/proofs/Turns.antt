@@ -45,7 +45,7 @@ use Rattle.library.specs.Turns.Going.{stays, ends}
 use Rattle.library.specs.Verdicts.{Ending, Shown, done_with, moved_verdict, refused_by}
 use Rattle.library.specs.Verdicts.Shown.{nothing, listed, inventory}
 use Rattle.steps.specs.Turning.{at_once, begun, continued, end_aborted, end_cancelled, enter_on, enter_taken, entered_turn, gone_on, idled, moved_turn, quiet, shown_marked, start_on, start_on_if, start_taken, start_taken_as, taken}
-use Rattle.server.specs.Answers.{shownEntries}
+use Rattle.server.specs.Answers.{shown_entries}
 use Rattle.server.specs.Hands.{is_enter}
 use Rattle.site.specs.Hearing.{succeeds_in}
 use Rattle.site.specs.Inventories.{Inventory, all, changed, changed_by, entries_in, told, told_more}
@@ -87,7 +87,7 @@ module _ (s : Stocked) (w : Option Job) (q : Request) where
     few : count before ≤ 256 → count behind ≤ 256
     few h = subst⁻¹ (λ (ks : List Kind). length ks ≤ 256) kinds h
 
-    pub proper-ends : (v : Ending) → t.course.goes ≡ ends v → ShownGood v.shown → succeeds_in (Some (final_heard q v behind)) ≡ false → Tells (all (shownEntries v.shown)) behind → Proper s w q t
+    pub proper-ends : (v : Ending) → t.course.goes ≡ ends v → ShownGood v.shown → succeeds_in (Some (final_heard q v behind)) ≡ false → Tells (all (shown_entries v.shown)) behind → Proper s w q t
     proper-ends v e good lost tell = record {
       counts = counts;
       kinds = kinds;
@@ -97,8 +97,8 @@ module _ (s : Stocked) (w : Option Job) (q : Request) where
           subst⁻¹ (λ (g : Going). Sane (hearing before.kinds true (heard_end g q behind) is) (now_started true st (heard_end g q behind)) (work_after g q) d behind) e
           (record {
             hand = subst⁻¹ (λ (x : Bool). cond x true st ≡ true → behind.hand ≡ 0) lost (λ y. hand (h.hand y));
-            books = subst⁻¹ (λ (x : Bool). Each (Booked d [] behind) (told_more x (told (Some (final_heard q v behind))) (map (λ i. changed_by before.kinds i (all (shownEntries v.shown))) is))) lost
-                (each_map (Booked d (entries_so_far w) before) (Booked d [] behind) (λ i. changed_by before.kinds i (all (shownEntries v.shown)))
+            books = subst⁻¹ (λ (x : Bool). Each (Booked d [] behind) (told_more x (told (Some (final_heard q v behind))) (map (λ i. changed_by before.kinds i (all (shown_entries v.shown))) is))) lost
+                (each_map (Booked d (entries_so_far w) before) (Booked d [] behind) (λ i. changed_by before.kinds i (all (shown_entries v.shown)))
                 (λ i b. (b.0, hand b.1, few b.2, tell i b.1 b.2 b.3)) is h.books);
           });
     }
@@ -119,7 +119,7 @@ module _ (s : Stocked) (w : Option Job) (q : Request) where
     }
 
   -- Nothing moves.
-  pub proper-same : (t : Turned) (v : Ending) → Sound before → t.stock.robot ≡ before → t.course.goes ≡ ends v → ShownGood v.shown → succeeds_in (Some (final_heard q v t.stock.robot)) ≡ false → all (shownEntries v.shown) ≡ entries_so_far w → Proper s w q t
+  pub proper-same : (t : Turned) (v : Ending) → Sound before → t.stock.robot ≡ before → t.course.goes ≡ ends v → ShownGood v.shown → succeeds_in (Some (final_heard q v t.stock.robot)) ≡ false → all (shown_entries v.shown) ≡ entries_so_far w → Proper s w q t
   proper-same t v sound r e good lost same =
       proper-ends t (λ k h. ap (cartridges_of k) r) (ap (λ (m : Meaning). m.kinds) r) (subst⁻¹ Sound r sound) (λ h. ap (λ (m : Meaning). m.hand) r ∙ h) v e good lost
       (λ i h f x. ap (changed_by before.kinds i) same ∙ x ∙ sym (ap cells r))
@@ -211,7 +211,7 @@ module _ (k : ℕ) (mk : Mark) (s : Stocked) (st : State) (sound : Sound s.robot
   begun-proper (body.Vary drive setting) = proper-same s None (asked (body.Vary drive setting)) _ _ sound refl refl tt refl refl
 
 -- A marked enter shows its entries, and no other request has any.
-shown_marked_holds : (b : Body) (es : List Entry) → all (shownEntries (shown_marked b es)) ≡ so_far b es
+shown_marked_holds : (b : Body) (es : List Entry) → all (shown_entries (shown_marked b es)) ≡ so_far b es
 shown_marked_holds (body.Cancel target) es = refl
 shown_marked_holds (body.Dismount label drive force) es = refl
 shown_marked_holds (body.Eject label) es = refl

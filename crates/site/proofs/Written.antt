@@ -17,7 +17,7 @@ use Rattle.stock.specs.Holding.{inventory_of, shown_at}
 use Rattle.library.specs.Finals.{FinalFor}
 use Rattle.library.specs.Verdicts.{Shown, Ending}
 use Rattle.library.specs.Verdicts.Shown.{nothing, listed, inventory}
-use Rattle.server.specs.Answers.{finalTold, lengthBy, lengthIn, shownEntries, shownInventory}
+use Rattle.server.specs.Answers.{final_told, length_by, length_in, shown_entries, shown_inventory}
 use Rattle.server.specs.Calls.{wrote}
 use Rattle.server.specs.Machine.{replied}
 use Rattle.library.specs.Library.{Library}
@@ -41,9 +41,9 @@ module _ (t : Told) (xs : List ℕ) (long : 2048 ≤ length xs) (w : Writable t)
 
   pub heard-wrote : (l : Library) → heard (replied (wrote t xs l)).reply ≡ Some (filled t)
   heard-wrote l =
-      reads_back t xs (left t xs) (lengthIn xs t) w.few w.places
+      reads_back t xs (left t xs) (length_in xs t) w.few w.places
       (ap (λ (o : Option Unwritable). left_by o t xs) no-hindrance)
-      (ap (λ (o : Option Unwritable). lengthBy (answer_by o t)) no-hindrance)
+      (ap (λ (o : Option Unwritable). length_by (answer_by o t)) no-hindrance)
       w.sound
 
 -- An inventory tells 256 places, each with a cartridge's number or nothing.
@@ -103,12 +103,12 @@ ShownGood (listed es) = (length es ≤ 21) × Entered es
 ShownGood inventory = Unit {0}
 
 abbrev told_by_holds : FinalFor → Meaning → Shown → Told
-told_by_holds f m y = finalTold (record { request = f.request; ending = record { status = f.ending.status; detail = f.ending.detail; shown = y } }) m
+told_by_holds f m y = final_told (record { request = f.request; ending = record { status = f.ending.status; detail = f.ending.detail; shown = y } }) m
 
 writable_shown : (f : FinalFor) (m : Meaning) → Sound m → (x : Shown) → ShownGood x → Writable (told_by_holds f m x)
 writable_shown f m s nothing g = record { few = omega arith; places = omega arith; sound = record { entries = tt; inventory = tt } }
 writable_shown f m s (listed es) g = record { few = g.0; places = omega arith; sound = record { entries = g.1; inventory = tt } }
 writable_shown f m s inventory g = record { few = omega arith; places = omega (arith, inventory_length m); sound = record { entries = tt; inventory = inventory_placed m s } }
 
-pub writable_final : (f : FinalFor) (m : Meaning) → Sound m → ShownGood f.ending.shown → Writable (finalTold f m)
+pub writable_final : (f : FinalFor) (m : Meaning) → Sound m → ShownGood f.ending.shown → Writable (final_told f m)
 writable_final f m s g = writable_shown f m s f.ending.shown g
