@@ -40,8 +40,7 @@ fn tell(outline: Outline) -> Checked
 }
 
 /// Checks the bytes of a packet: status 0 if they are a request, else why they are none.
-#[unsafe(no_mangle)]
-pub extern "C" fn cartridge_check_packet(packet: &[u8]) -> Checked
+pub fn cartridge_check_packet(packet: &[u8]) -> Checked
     ensures { result ≡ told_of (request_in packet.now) }
 {
     tell(inspect(packet))

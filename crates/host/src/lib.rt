@@ -1,5 +1,5 @@
-//! What hosts call from C: a check of a packet's bytes, and the writer of request packets, on
-//! numbers and bytes. `c/cartridge_host.h` declares both.
+//! What hosts call: a check of a packet's bytes, and the writer of request packets, on numbers and
+//! bytes. The crate `host_c` exports both for C.
 
 #![tactic(auto)]
 

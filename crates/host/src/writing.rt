@@ -33,8 +33,7 @@ fn tell(res: Result<usize, Unwritable>) -> Written
 
 /// Writes the packet of a map and a value for each field to the front of the buffer, or tells why
 /// not and leaves the buffer as it was. Values of fields that are not in the map are ignored.
-#[unsafe(no_mangle)]
-pub extern "C" fn cartridge_write_request(
+pub fn cartridge_write_request(
     buffer: &mut [u8],
     map: u8,
     number: u16,

@@ -1,3 +1,4 @@
+use crate::script::ensure;
 use bay::bay::Bay;
 use library::message::Message;
 use library::slots::{BLANK_MESSAGE, BLANK_REQUEST};
@@ -26,9 +27,8 @@ fn answered(rt: HostRuntime, packet: &[u8], expected: &[u8]) -> Result<(), Fail>
     let mut library = Serving::new(rt.alloc(), small_bay(rt)?, &mut requests, &mut messages)?;
     let mut buffer = [7; 2048];
     let length = library.receive(packet, &mut buffer)?;
-    assert!(&buffer[0..length] == expected);
-    assert!(length < 2048 && buffer[length] == 7);
-    Ok(())
+    ensure(&buffer[0..length] == expected)?;
+    ensure(length < 2048 && buffer[length] == 7)
 }
 
 #[test]

@@ -31,6 +31,15 @@ pub enum Call {
     Service(u16, bool),
 }
 
+/// Fails the test where this does not hold.
+pub fn ensure(holds: bool) -> Result<(), Fail> {
+    if holds {
+        Ok(())
+    } else {
+        Err(Fail::new("an answer is not as worked out"))
+    }
+}
+
 /// The packet is answered by these bytes.
 pub fn received<R: Robot>(
     library: &mut Serving<R>,
@@ -39,16 +48,14 @@ pub fn received<R: Robot>(
 ) -> Result<(), Fail> {
     let mut buffer = [7; 2048];
     let length = library.receive(packet, &mut buffer)?;
-    assert!(length <= 2048 && &buffer[0..length] == expected);
-    Ok(())
+    ensure(length <= 2048 && &buffer[0..length] == expected)
 }
 
 /// The step writes these bytes, or nothing.
 pub fn stepped<R: Robot>(library: &mut Serving<R>, expected: &[u8]) -> Result<(), Fail> {
     let mut buffer = [7; 2048];
     let length = library.step(&mut buffer)?;
-    assert!(length <= 2048 && &buffer[0..length] == expected);
-    Ok(())
+    ensure(length <= 2048 && &buffer[0..length] == expected)
 }
 
 fn quiet<R: Robot>(library: &mut Serving<R>, steps: u16) -> Result<(), Fail> {
@@ -64,14 +71,10 @@ fn made<R: Robot>(library: &mut Serving<R>, call: Call) -> Result<(), Fail> {
         Call::Step(expected) => stepped(library, expected),
         Call::Quiet(steps) => quiet(library, steps),
         Call::Put(place, number) => Ok(library.put(place, number)?),
-        Call::Take(place, number) => {
-            assert!(library.take(place)? == number);
-            Ok(())
-        },
+        Call::Take(place, number) => ensure(library.take(place)? == number),
         Call::Barred(place, why) => {
-            assert!(library.put(place, 1) == Err(why));
-            assert!(library.take(place) == Err(why));
-            Ok(())
+            ensure(library.put(place, 1) == Err(why))?;
+            ensure(library.take(place) == Err(why))
         }
         Call::Service(place, on) => Ok(library.service(place, on)?),
     }
