@@ -60,12 +60,11 @@ abbrev pub entering : Option Job → Bool
 entering None = false
 entering (Some j) = is_enter j.request.body
 
--- Whether a hand reaches a place: there has to be one; while the door is shut, a port place, and no enter at work.
+-- Whether a hand reaches a place while the door is shut: no such place, not a port place, an enter at work.
 abbrev pub reach : Library → ℕ → Option CallRefusal
 reach l p =
     cond (nat_lt p (count l.stock.robot))
-    (cond l.door None
-    (cond (of_kind is_port l.stock.robot p) (cond (entering l.work) (Some refusal.EnterAtWork) None) (Some refusal.NotPort)))
+    (cond (of_kind is_port l.stock.robot p) (cond (entering l.work) (Some refusal.EnterAtWork) None) (Some refusal.NotPort))
     (Some refusal.NoPlace)
 
 -- What a call of a person answers, and the library after it.
@@ -88,8 +87,8 @@ with_stock s l = record {
 }
 
 -- A refused call changes nothing.
-abbrev pub refused_hand : {A : Type 0} → CallRefusal → Library → Handled A
-refused_hand why l = record { answer = Err why; library = l }
+abbrev pub barred_hand : {A : Type 0} → CallRefusal → Library → Handled A
+barred_hand why l = record { answer = Err why; library = l }
 
 -- What the robot answers, told to the person; where it refuses, it leaves all as it was.
 abbrev pub told_by : {A : Type 0} → (Fault → CallRefusal) → Result A Fault → Result A CallRefusal
@@ -98,7 +97,7 @@ told_by why (Err fault) = Err (why fault)
 
 -- Put: within reach, as the robot answers.
 abbrev pub put_if : Option CallRefusal → Library → ℕ → ℕ → Handled (Unit {0})
-put_if (Some why) l p number = refused_hand why l
+put_if (Some why) l p number = barred_hand why l
 put_if None l p number = record {
   answer = told_by why_not_put (put_answer l.stock.robot p number);
   library = with_stock (with_put l.stock p number) l;
@@ -109,7 +108,7 @@ put_call l p number = put_if (reach l p) l p number
 
 -- Take: within reach, as the robot answers.
 abbrev pub take_if : Option CallRefusal → Library → ℕ → Handled ℕ
-take_if (Some why) l p = refused_hand why l
+take_if (Some why) l p = barred_hand why l
 take_if None l p = record {
   answer = told_by why_not_taken (take_answer l.stock.robot p);
   library = with_stock (with_taken l.stock p) l;

@@ -4,8 +4,8 @@ use Rattle.library.specs.declared.message.Message.{Message}
 use Rattle.library.specs.Library.{Library}
 use Rattle.server.specs.declared.refusal.CallRefusal.{CallRefusal}
 use Rattle.server.specs.Calls.{Outcome, receive_call, step_call}
-use Rattle.server.specs.Hands.{Handled, put_call, service_call, take_call}
-use Rattle.server.specs.Door.{Messaged, message_call, open_call, shut_call}
+use Rattle.server.specs.Hands.{Handled, service_call}
+use Rattle.server.specs.Door.{Messaged, message_call, open_call, put_through, shut_call, take_through}
 
 -- A packet and how long a buffer is lent for its response; a step with such a buffer; the calls of people; the door; the messages.
 pub data Call : Type 0 where
@@ -75,8 +75,8 @@ blank n = replicate n 0
 abbrev pub after : Library → Call → After
 after l (receive packet n) = when_shut l.door l (replied (receive_call packet (blank n) l))
 after l (step n) = when_shut l.door l (replied (step_call (blank n) l))
-after l (put p number) = handled_as is_granted (put_call l p number)
-after l (take_out p) = handled_as took (take_call l p)
+after l (put p number) = handled_as is_granted (put_through l p number)
+after l (take_out p) = handled_as took (take_through l p)
 after l (service p on) = handled_as is_granted (service_call l p on)
 after l open-door = when_shut l.door l (record { reply = granted; library = open_call l })
 after l shut-door = when_open l.door l (record { reply = granted; library = shut_call l })

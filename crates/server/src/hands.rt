@@ -1,7 +1,7 @@
 //! What people do: at the port while the door is shut, at every place while it is open.
 
 ghost use Rattle.library.specs.Cores.{Live, library_of, work_of};
-ghost use Rattle.server.specs.Door.{with_door};
+ghost use Rattle.server.specs.Door.{put_through, take_through, with_door, within_reach};
 ghost use Rattle.server.specs.Hands.{entering, put_call, put_if, reach, service_call, take_call, take_if};
 ghost use Rattle.std.specs.Prelude.{◌≡◌, true, None};
 
@@ -42,7 +42,7 @@ fn reach<R: Robot>(core: &Core<R>, place: u16) -> Option<CallRefusal>
 
 /// Whether a hand reaches the place while the door is open: there has to be one.
 fn reach_inside<R: Robot>(core: &Core<R>, place: u16) -> Option<CallRefusal>
-    ensures { result ≡ reach (with_door true (library_of R.Questions.meaning core.now)) place }
+    ensures { result ≡ within_reach (with_door true (library_of R.Questions.meaning core.now)) place }
 {
     if place < core.stock.places() {
         None
@@ -106,8 +106,8 @@ pub fn take<R: Robot>(core: &mut Core<R>, place: u16) -> Result<u32, CallRefusal
 /// Puts a cartridge into any place, through the open door.
 pub fn put_inside<R: Robot>(core: &mut Core<R>, place: u16, number: u32) -> Result<(), CallRefusal>
     requires { Live core.old }
-    ensures answer { result ≡ (put_call (with_door true (library_of R.Questions.meaning core.old)) place number).answer }
-    ensures library { with_door true (library_of R.Questions.meaning core.new) ≡ (put_call (with_door true (library_of R.Questions.meaning core.old)) place number).library }
+    ensures answer { result ≡ (put_through (with_door true (library_of R.Questions.meaning core.old)) place number).answer }
+    ensures library { with_door true (library_of R.Questions.meaning core.new) ≡ (put_through (with_door true (library_of R.Questions.meaning core.old)) place number).library }
     ensures live { Live core.new }
 {
     match reach_inside(core, place) {
@@ -119,8 +119,8 @@ pub fn put_inside<R: Robot>(core: &mut Core<R>, place: u16, number: u32) -> Resu
 /// Takes the cartridge out of any place, through the open door.
 pub fn take_inside<R: Robot>(core: &mut Core<R>, place: u16) -> Result<u32, CallRefusal>
     requires { Live core.old }
-    ensures answer { result ≡ (take_call (with_door true (library_of R.Questions.meaning core.old)) place).answer }
-    ensures library { with_door true (library_of R.Questions.meaning core.new) ≡ (take_call (with_door true (library_of R.Questions.meaning core.old)) place).library }
+    ensures answer { result ≡ (take_through (with_door true (library_of R.Questions.meaning core.old)) place).answer }
+    ensures library { with_door true (library_of R.Questions.meaning core.new) ≡ (take_through (with_door true (library_of R.Questions.meaning core.old)) place).library }
     ensures live { Live core.new }
 {
     match reach_inside(core, place) {

@@ -1,4 +1,4 @@
-//! The request server: the calls of a library whose door is shut, and those of one whose door is open.
+//! The request server: the calls of a library whose door is shut.
 
 #![tactic(auto)]
 

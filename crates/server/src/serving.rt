@@ -14,7 +14,7 @@ pub struct Serving<'a, R> {
 
 /// A library whose door is open: hands reach every place, and no packet comes in.
 #[derive(Drop)]
-pub struct Open<'a, R> {
+pub(crate) struct Open<'a, R> {
     core: Core<'a, R>,
     ghost live: { Live core },
 }

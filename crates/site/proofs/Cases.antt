@@ -22,7 +22,8 @@ use Rattle.server.specs.declared.refusal.CallRefusal.{CallRefusal}
 use Rattle.server.specs.declared.refusal.CallRefusal.TheVariants as refusal
 use Rattle.server.specs.Answers.{bad_told}
 use Rattle.server.specs.Calls.{Outcome, refused_call, receive_call, receive_read, step_call, step_outcome, said_outcome, wrote, used_by, number_read, in_use, answered_read}
-use Rattle.server.specs.Hands.{Handled, told_by, reach, put_call, put_if, take_call, take_if, service_call, why_not_put, why_not_taken, no_such_place, with_stock}
+use Rattle.server.specs.Door.{put_through, within_reach, take_through}
+use Rattle.server.specs.Hands.{Handled, told_by, put_if, take_if, service_call, why_not_put, why_not_taken, no_such_place, with_stock}
 use Rattle.server.specs.Machine.{After, Reply, replied, handled_as, is_granted, blank, when_shut, when_open, barred_call}
 use Rattle.server.specs.Machine.Reply.{refused, granted, took}
 
@@ -112,30 +113,30 @@ module _ (P : After → Type 0) (l : Library) (p : ℕ) (deny : (why : CallRefus
   put-robot number (Some fault) k go = deny (why_not_put fault)
   put-robot number None k go = go k
 
-  put-by : (number : ℕ) (o : Option CallRefusal) → reach l p ≡ o
-      → (reach l p ≡ None → put_refusal l.stock.robot p number ≡ None → P (record { reply = granted; library = with_robot (with_held l.stock.robot p number l.stock.robot.hand) l }))
+  put-by : (number : ℕ) (o : Option CallRefusal) → within_reach l p ≡ o
+      → (within_reach l p ≡ None → put_refusal l.stock.robot p number ≡ None → P (record { reply = granted; library = with_robot (with_held l.stock.robot p number l.stock.robot.hand) l }))
       → P (handled_as is_granted (put_if o l p number))
   put-by number (Some why) e go = deny why
   put-by number None e go = put-robot number (put_refusal l.stock.robot p number) refl (go e)
 
   pub put-cases : (number : ℕ)
-      → (reach l p ≡ None → put_refusal l.stock.robot p number ≡ None → P (record { reply = granted; library = with_robot (with_held l.stock.robot p number l.stock.robot.hand) l }))
-      → P (handled_as is_granted (put_call l p number))
-  put-cases number go = put-by number (reach l p) refl go
+      → (within_reach l p ≡ None → put_refusal l.stock.robot p number ≡ None → P (record { reply = granted; library = with_robot (with_held l.stock.robot p number l.stock.robot.hand) l }))
+      → P (handled_as is_granted (put_through l p number))
+  put-cases number go = put-by number (within_reach l p) refl go
 
   take-robot : (f : Option Fault) → take_refusal l.stock.robot p ≡ f → (take_refusal l.stock.robot p ≡ None → P (record { reply = took (held_at l.stock.robot p); library = with_robot (with_held l.stock.robot p 0 l.stock.robot.hand) l })) → P (take_with l p f)
   take-robot (Some fault) k go = deny (why_not_taken fault)
   take-robot None k go = go k
 
-  take_by : (o : Option CallRefusal) → reach l p ≡ o
-      → (reach l p ≡ None → take_refusal l.stock.robot p ≡ None → P (record { reply = took (held_at l.stock.robot p); library = with_robot (with_held l.stock.robot p 0 l.stock.robot.hand) l }))
+  take_by : (o : Option CallRefusal) → within_reach l p ≡ o
+      → (within_reach l p ≡ None → take_refusal l.stock.robot p ≡ None → P (record { reply = took (held_at l.stock.robot p); library = with_robot (with_held l.stock.robot p 0 l.stock.robot.hand) l }))
       → P (handled_as took (take_if o l p))
   take_by (Some why) e go = deny why
   take_by None e go = take-robot (take_refusal l.stock.robot p) refl (go e)
 
-  pub take_cases : (reach l p ≡ None → take_refusal l.stock.robot p ≡ None → P (record { reply = took (held_at l.stock.robot p); library = with_robot (with_held l.stock.robot p 0 l.stock.robot.hand) l }))
-      → P (handled_as took (take_call l p))
-  take_cases go = take_by (reach l p) refl go
+  pub take_cases : (within_reach l p ≡ None → take_refusal l.stock.robot p ≡ None → P (record { reply = took (held_at l.stock.robot p); library = with_robot (with_held l.stock.robot p 0 l.stock.robot.hand) l }))
+      → P (handled_as took (take_through l p))
+  take_cases go = take_by (within_reach l p) refl go
 
   switch-robot : (on : Bool) (f : Option Fault) → switch_refusal l.stock.robot p ≡ f → (switch_refusal l.stock.robot p ≡ None → P (record { reply = granted; library = with_robot (with_service l.stock.robot p on) l })) → P (switch_with l p on f)
   switch-robot on (Some fault) k go = deny (no_such_place fault)

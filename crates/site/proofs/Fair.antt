@@ -44,8 +44,8 @@ use Rattle.server.specs.declared.refusal.CallRefusal.{CallRefusal}
 use Rattle.server.specs.declared.refusal.CallRefusal.TheVariants.{EnterAtWork, NotPort, NoPlace}
 use Rattle.server.specs.Answers.{acknowledge_told, bad_told, final_told, said_told, shown_entries}
 use Rattle.server.specs.Calls.{in_use, work_has, said_outcome, step_outcome, step_writes, wrote}
-use Rattle.server.specs.Door.{message_call, open_call, shut_call}
-use Rattle.server.specs.Hands.{entering, is_enter, reach}
+use Rattle.server.specs.Door.{message_call, open_call, shut_call, within_reach}
+use Rattle.server.specs.Hands.{entering, is_enter}
 use Rattle.server.specs.Machine.{After, Call, Event, Reply, after, barred_call, blank, message_after, replied}
 use Rattle.server.specs.Machine.Call.{receive, step, put, take_out, service, open-door, shut-door, message}
 use Rattle.server.specs.Machine.Reply.{response, granted, took, messaged, refused, barred}
@@ -361,13 +361,13 @@ fair_stepped l n long good room shut None ew [] eq = record {
 }
 
 -- A hand at a place that it reaches: with the door open nothing is told of the cells, and a port place is none of them.
-reaches : (b d port busy : Bool) → cond b (cond d None (cond port (cond busy (Some EnterAtWork) None) (Some NotPort))) (Some NoPlace) ≡ None → d ≡ false → port ≡ true
-reaches true true port busy e shut = absurd (true≢false shut)
+reaches : (b d port busy : Bool) → cond d (cond b None (Some NoPlace)) (cond b (cond port (cond busy (Some EnterAtWork) None) (Some NotPort)) (Some NoPlace)) ≡ None → d ≡ false → port ≡ true
+reaches b true port busy e shut = absurd (true≢false shut)
 reaches true false true busy e shut = refl
 reaches true false false busy e shut = let z : ◌≡◌ {A = ℕ} 0 1 = cc in absurd (omega arith)
-reaches false d port busy e shut = let z : ◌≡◌ {A = ℕ} 0 1 = cc in absurd (omega arith)
+reaches false false port busy e shut = let z : ◌≡◌ {A = ℕ} 0 1 = cc in absurd (omega arith)
 
-module _ (l : Library) (p : ℕ) (may : reach l p ≡ None) (x : ℕ) where
+module _ (l : Library) (p : ℕ) (may : within_reach l p ≡ None) (x : ℕ) where
   abbrev touched : Meaning
   touched = with_held l.stock.robot p x l.stock.robot.hand
 
@@ -381,7 +381,7 @@ module _ (l : Library) (p : ℕ) (may : reach l p ≡ None) (x : ℕ) where
         (λ i b. (b.0, b.1, b.2, b.3 ∙ at_port l.stock.robot p x l.stock.robot.hand (at-the-port b.0))) is s.books;
   }
 
-fair_put : (l : Library) (p number : ℕ) → Sound l.stock.robot → reach l p ≡ None → put_refusal l.stock.robot p number ≡ None → Fair l (put p number) (record { reply = granted; library = with_robot (with_held l.stock.robot p number l.stock.robot.hand) l })
+fair_put : (l : Library) (p number : ℕ) → Sound l.stock.robot → within_reach l p ≡ None → put_refusal l.stock.robot p number ≡ None → Fair l (put p number) (record { reply = granted; library = with_robot (with_held l.stock.robot p number l.stock.robot.hand) l })
 fair_put l p number sound may e = record {
   h = None;
   hears = refl;
@@ -396,7 +396,7 @@ fair_put l p number sound may e = record {
   sane = λ is st s. still_heard l.stock.robot.kinds false is st l.work l.door (touched l p may number) (touched-sane l p may number is st s);
 }
 
-fair_take : (l : Library) (p : ℕ) → Sound l.stock.robot → reach l p ≡ None → take_refusal l.stock.robot p ≡ None → Fair l (take_out p) (record { reply = took (held_at l.stock.robot p); library = with_robot (with_held l.stock.robot p 0 l.stock.robot.hand) l })
+fair_take : (l : Library) (p : ℕ) → Sound l.stock.robot → within_reach l p ≡ None → take_refusal l.stock.robot p ≡ None → Fair l (take_out p) (record { reply = took (held_at l.stock.robot p); library = with_robot (with_held l.stock.robot p 0 l.stock.robot.hand) l })
 fair_take l p sound may e = record {
   h = None;
   hears = refl;

@@ -30,8 +30,8 @@ use Rattle.receipt.specs.Checking.{body_refusal, drive_online, drive_refusal, dr
 use Rattle.steps.specs.Stepping.{finished, library_after, stepped, stepped_by, work_after}
 use Rattle.server.specs.Calls.{said_outcome, step_outcome, step_writes}
 use Rattle.library.specs.Finals.{FinalFor}
-use Rattle.server.specs.Door.{message_call, open_call, shut_call, with_door}
-use Rattle.server.specs.Hands.{is_enter, reach}
+use Rattle.server.specs.Door.{message_call, open_call, within_reach, shut_call, with_door}
+use Rattle.server.specs.Hands.{is_enter}
 use Rattle.server.specs.Machine.{After, Call, after, blank, replied}
 use Rattle.server.specs.Machine.Call.{receive, step, put, take_out, service, open-door, shut-door, message}
 use Rattle.site.specs.Catalogues.{CatalogueTrue, due, filing, filings}

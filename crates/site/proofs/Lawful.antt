@@ -29,7 +29,7 @@ use Rattle.library.specs.Making.{fresh}
 use Rattle.receipt.specs.Checking.{refusal_of, served}
 use Rattle.steps.specs.Stepping.{stepped}
 use Rattle.server.specs.Calls.{step_outcome, step_writes}
-use Rattle.server.specs.Hands.{is_enter, reach}
+use Rattle.server.specs.Hands.{is_enter}
 use Rattle.server.specs.Machine.{After, Call, Event, Reply, after, blank, history, replied, stands}
 use Rattle.server.specs.Machine.Call.{receive, step, put, take_out, service, open-door, shut-door, message}
 use Rattle.site.specs.Hearing.{acknowledged, answered}

@@ -118,7 +118,7 @@ impl<'a, R: Robot> Serving<'a, R> {
     }
 
     /// Takes the oldest message to the operator, if there is one, and tells how many were dropped.
-    pub fn message(&mut self) -> (Option<Message>, u16)
+    pub(crate) fn message(&mut self) -> (Option<Message>, u16)
         ensures message { result.0 ≡ (message_call (library_of R.Questions.meaning self.old.core)).message }
         ensures dropped { result.1 ≡ (message_call (library_of R.Questions.meaning self.old.core)).dropped }
         ensures library { library_of R.Questions.meaning self.new.core ≡ (message_call (library_of R.Questions.meaning self.old.core)).library }
