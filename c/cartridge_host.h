@@ -1,5 +1,5 @@
 /* Request packets for hosts of a cartridge library: a check of a packet's bytes, and the writer of
-   request packets. Link libhost.a, which `rt staticlib host` writes. docs/PACKETS.md has the rules.
+   request packets. Link libhost.a, which `c/library` writes. docs/PACKETS.md has the rules.
 
    The functions keep nothing between calls, ask for no memory and write nowhere but into the
    buffer that they are given. Pointers and lengths are trusted: a pointer must not be null, also

@@ -1,14 +1,14 @@
-//! Links the proved static libraries, which `rt staticlib` writes, and the C code that the kit has for
+//! Links the proved static libraries, which `c/library` writes, and the C code that the kit has for
 //! those that allocate.
 
 use std::path::{Path, PathBuf};
 use std::process::Command;
 
-/// The folder of the kit, which has the guide that `rt doc` names in a folder of its own.
+/// The folder of the kit, which has the guide that `rt doc` names.
 fn kit() -> Option<PathBuf> {
     let said = Command::new("rt").arg("doc").output().ok()?;
     let guide = String::from_utf8(said.stdout).ok()?;
-    Some(Path::new(guide.trim()).parent()?.parent()?.to_path_buf())
+    Some(Path::new(guide.trim()).parent()?.to_path_buf())
 }
 
 fn main() {
@@ -16,10 +16,10 @@ fn main() {
     let folder = Path::new(&here).join("../target/staticlib");
     let kit = kit().expect("rt doc names a guide of the kit");
     println!("cargo:rustc-link-search=native={}", folder.display());
-    println!("cargo:rustc-link-search=native={}", kit.join("lib").display());
+    println!("cargo:rustc-link-search=native={}", kit.join("c").display());
     for library in ["host", "load"] {
         println!("cargo:rustc-link-lib=static={library}");
         println!("cargo:rerun-if-changed={}", folder.join(format!("lib{library}.a")).display());
     }
-    println!("cargo:rustc-link-lib=static=rattle_c");
+    println!("cargo:rustc-link-lib=static=libc_c");
 }

@@ -6,7 +6,7 @@ use Rattle.std.proofs.lemmas.Bool.{lt-ltb, le-ltb, cases_eq, cases_lt}
 use Rattle.labels.specs.Numbers.{unreadable_number}
 use Rattle.robots.specs.declared.kind.Kind.TheVariants.{Cell}
 use Rattle.robots.specs.declared.place.Place.{Place}
-use Rattle.robots.specs.Meaning.{Meaning, Sound, count}
+use Rattle.robots.specs.Meaning.{Sound}
 use Rattle.robots.specs.Acts.{with_held, with_service}
 use Rattle.robots.specs.Making.{place_kind, place_cartridge, place_service, meaning_of, place_asked}
 use Rattle.bay.specs.Numbered.{Numbered}

@@ -1,5 +1,5 @@
 -- What C is told of a packet.
-use Rattle.std.specs.Prelude.{ℕ, Bool, true, false, is_some, Some, None, Ok, Err, Option, Result}
+use Rattle.std.specs.Prelude.{ℕ, is_some, None, Ok, Err, Option, Result}
 use Rattle.std.specs.Option.{unwrap_or}
 use Rattle.statuses.specs.declared.Status.{Status}
 use Rattle.statuses.specs.declared.Status.TheVariants as status

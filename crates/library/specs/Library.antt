@@ -1,5 +1,5 @@
 -- A library as it stands.
-use Rattle.std.specs.Prelude.{ℕ, Bool, true, false, List, [], ◌∷◌, ◌++◌, Some, None, Option}
+use Rattle.std.specs.Prelude.{ℕ, Bool, List, [], ◌∷◌, ◌++◌, Some, None, Option}
 use Rattle.requests.specs.declared.bodies.Request.{Request}
 use Rattle.responses.specs.declared.Entry.{Entry}
 use Rattle.stock.specs.Models.{Stocked}

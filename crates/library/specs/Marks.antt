@@ -1,5 +1,5 @@
 -- Marks, and which requests a cancel, a forced idle or a drive concerns.
-use Rattle.std.specs.Prelude.{ℕ, Bool, true, false, cond, ◌&&◌, Some, None, Option, ◌==◌}
+use Rattle.std.specs.Prelude.{ℕ, Bool, true, false, ◌&&◌, Some, None, Option, ◌==◌}
 use Rattle.requests.specs.declared.bodies.Body.{Body}
 use Rattle.requests.specs.declared.bodies.Body.TheVariants as body
 use Rattle.requests.specs.declared.bodies.Mark.{Mark}

@@ -1,5 +1,5 @@
 -- Messages to the operator: a full queue drops the new one and counts it, up to 65,535.
-use Rattle.std.specs.Prelude.{ℕ, ◌+◌, min, Bool, true, false, cond, List, [], ◌∷◌, ◌++◌, length, Some, None, Option, nat_lt}
+use Rattle.std.specs.Prelude.{ℕ, ◌+◌, min, cond, List, [], ◌∷◌, ◌++◌, length, Some, None, Option, nat_lt}
 use Rattle.library.specs.declared.message.Message.{Message}
 use Rattle.library.specs.declared.message.Notice.{Notice}
 use Rattle.library.specs.States.{notice_number}

@@ -1,5 +1,5 @@
 -- What a request that is not refused does, and what it is answered.
-use Rattle.std.specs.Prelude.{ℕ, Bool, true, false, cond, List, [], ◌∷◌, ◌++◌, map, length, Some, None, Ok, Err, Option, Result, nat_lt}
+use Rattle.std.specs.Prelude.{ℕ, Bool, true, false, [], ◌∷◌, ◌++◌, map, length, Some, None, Ok, Err, Option, Result, nat_lt}
 use Rattle.labels.specs.declared.Label.{Label}
 use Rattle.labels.specs.Numbers.{number_of}
 use Rattle.statuses.specs.declared.Status.TheVariants.{Success}
@@ -22,7 +22,7 @@ use Rattle.library.specs.declared.drive.DriveEvent.TheVariants.{ToOnline, ToOffl
 use Rattle.library.specs.States.{state_number}
 use Rattle.library.specs.Drives.{drive_told, named}
 use Rattle.library.specs.Finals.{FinalFor, final_of}
-use Rattle.library.specs.Library.{Job, Library}
+use Rattle.library.specs.Library.{Library}
 use Rattle.library.specs.Marks.{aborted, at_work, cancelled}
 use Rattle.library.specs.Messages.{posted, dropped}
 use Rattle.library.specs.Verdicts.{Ending, done_with, moved_verdict, refused_by, told_state}

@@ -1,5 +1,5 @@
 -- The checks at receipt, in the order of their statuses.
-use Rattle.std.specs.Prelude.{ℕ, Bool, true, false, cond, not as opposite, ◌||◌, eqb, List, Some, None, Option}
+use Rattle.std.specs.Prelude.{ℕ, Bool, true, false, cond, not as opposite, ◌||◌, Some, None, Option}
 use Rattle.ring.specs.Order.{any_of}
 use Rattle.labels.specs.declared.Label.{Label}
 use Rattle.statuses.specs.declared.Status.{Status}

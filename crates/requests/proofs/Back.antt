@@ -11,8 +11,8 @@ use Rattle.requests.specs.declared.taking.Fields.{Fields}
 use Rattle.requests.specs.declared.taking.Taken.{Taken}
 use Rattle.requests.specs.declared.values.Values.{Values}
 use Rattle.requests.specs.declared.writing.Unwritable.{Unwritable}
-use Rattle.requests.specs.declared.writing.Unwritable.TheVariants.{SmallBuffer, BadFields}
-use Rattle.requests.specs.Taking.{map_alone, with_number, with_command, with_option, with_label, with_place, with_target, with_state, next, ending_of, from_state, from_target, from_place, from_label, from_option, from_command, from_number, taken, Stands}
+use Rattle.requests.specs.declared.writing.Unwritable.TheVariants.{SmallBuffer}
+use Rattle.requests.specs.Taking.{map_alone, with_number, with_command, with_option, with_label, with_place, with_target, with_state, next, ending_of, from_state, from_target, from_place, from_label, from_option, from_command, taken, Stands}
 use Rattle.requests.specs.Checking.{checked}
 use Rattle.requests.specs.Reading.{answered_by, answered, request_in}
 use Rattle.requests.specs.Values.{when, fields_of}

@@ -1,5 +1,5 @@
 -- What is told of a packet without its request is what its request would tell.
-use Rattle.std.proofs.Common.{◌≡◌, ℕ, Bool, true, false, cond, ltb, List, is_some, Some, None, Ok, Err, Option, Result, unwrap_or, sym, refl, ap, ◌∙◌, subst}
+use Rattle.std.proofs.Common.{◌≡◌, ℕ, Bool, false, cond, ltb, List, is_some, Some, None, Ok, Err, Option, Result, unwrap_or, sym, refl, ap, ◌∙◌, subst}
 use Rattle.byte_fields.specs.Taking.{Bytes}
 use Rattle.labels.specs.declared.Label.{Label}
 use Rattle.requests.specs.declared.commands.Command.{Command}

@@ -16,9 +16,9 @@ use Rattle.requests.specs.declared.taking.Fields.{Fields}
 use Rattle.requests.specs.Commands.{row, command_number}
 use Rattle.requests.specs.Bodies.{setting_number}
 use Rattle.requests.specs.Taking.{held, Stands}
-use Rattle.requests.specs.Checking.{wrong_at, wrong_option, no_label, body_of, checked, made_of}
-use Rattle.requests.specs.Values.{when, fields_of, fields_for}
-use Rattle.requests.proofs.Passed.{true_false, passed, AllRight, all_right_holds}
+use Rattle.requests.specs.Checking.{wrong_at, wrong_option, no_label, body_of, checked}
+use Rattle.requests.specs.Values.{when, fields_for}
+use Rattle.requests.proofs.Passed.{true_false, passed, all_right_holds}
 
 -- A field as a command takes it: there if it is needed, as it is if it is permitted, else not there.
 abbrev kept : {X : Type 0} → Command → ℕ → Option X → X → Option X

@@ -1,5 +1,5 @@
 -- What is told of a packet without its request.
-use Rattle.std.specs.Prelude.{ℕ, ◌-◌, Bool, true, cond, List, [], ◌∷◌, Some, None, Ok, Err, Option, Result, bit_and, bit_or, bit_xor}
+use Rattle.std.specs.Prelude.{ℕ, ◌-◌, Bool, true, cond, List, [], ◌∷◌, Some, Ok, Err, Option, Result, bit_and, bit_or, bit_xor}
 use Rattle.byte_fields.specs.Taking.{has_bit}
 use Rattle.requests.specs.declared.commands.Command.{Command}
 use Rattle.requests.specs.declared.bodies.Request.{Request}

@@ -3,7 +3,6 @@ use Rattle.std.proofs.Common.{◌≡◌, ℕ, zero, suc, ◌≤◌, Bool, true, 
 use Rattle.byte_fields.specs.Taking.{Bytes}
 use Rattle.byte_fields.proofs.Forth.{none_some, pair_eq}
 use Rattle.responses.specs.Responses.{count_of}
-use Rattle.responses.specs.Writing.{bytes_of}
 use Rattle.responses.specs.Reading.{after, given, consed, maybe}
 
 -- What was handed on.

@@ -1,10 +1,10 @@
 -- Searches among the places.
-use Rattle.std.proofs.Common.{◌≡◌, ℕ, zero, suc, ◌+◌, ◌-◌, ◌<◌, ◌≤◌, Bool, true, false, cond, ◌&&◌, ltb, List, [], ◌∷◌, ◌++◌, Some, None, Option, sym, refl, ap, ◌∙◌, ⊎_elim, add-zero, zero-add, arith}
+use Rattle.std.proofs.Common.{◌≡◌, ℕ, zero, suc, ◌+◌, ◌-◌, ◌<◌, ◌≤◌, true, false, cond, List, [], ◌∷◌, ◌++◌, Some, None, sym, refl, ap, ⊎_elim, add-zero, zero-add, arith}
 use Rattle.std.proofs.lemmas.Bool.{le-ltb, cases_Bool}
 use Rattle.std.specs.List.{range_with_len}
 use Rattle.robots.specs.Meaning.{Meaning, count}
 use Rattle.robot_moves.specs.declared.search.Wanted.{Wanted}
-use Rattle.robot_moves.specs.declared.search.Wanted.TheVariants.{FreeCell, FreePort, FullPort}
+use Rattle.robot_moves.specs.declared.search.Wanted.TheVariants.{FreeCell}
 use Rattle.robot_moves.specs.Search.{passes, first_of, next_free_cell, of_kind, is_port, ports_among, up_to}
 
 -- One turn of a loop over places, and its end.

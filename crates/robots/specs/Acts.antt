@@ -1,5 +1,5 @@
 -- The acts of a robot: why each is refused, what it answers, and what it leaves.
-use Rattle.std.specs.Prelude.{ℕ, Bool, true, false, cond, not, Some, None, Ok, Err, Option, Result, ◌==◌, nat_lt, slice_set}
+use Rattle.std.specs.Prelude.{ℕ, Bool, cond, not, Some, None, Ok, Err, Option, Result, ◌==◌, nat_lt, slice_set}
 use Rattle.labels.specs.Labels.{is_cartridge_number}
 use Rattle.robots.specs.declared.fault.Fault.{Fault}
 use Rattle.robots.specs.declared.fault.Fault.TheVariants.{NoPlace, HandFull, HandEmpty, OutOfService, PlaceEmpty, PlaceFull, BadNumber}

@@ -1,5 +1,5 @@
 -- What a robot of up to 256 places is made from: a list of its places, and what its hand holds.
-use Rattle.std.specs.Prelude.{◌≡◌, ℕ, ◌≤◌, Bool, true, false, cond, not, ◌&&◌, ◌||◌, List, [], ◌∷◌, map, length, Some, None, Ok, Err, Option, Result, nat_le, nat_lt}
+use Rattle.std.specs.Prelude.{◌≡◌, ℕ, Bool, true, cond, not, ◌&&◌, ◌||◌, List, [], ◌∷◌, map, length, Some, None, Ok, Err, Option, Result, nat_le, nat_lt}
 use Rattle.labels.specs.Numbers.{unreadable_number}
 use Rattle.robots.specs.declared.kind.Kind.{Kind}
 use Rattle.robots.specs.declared.place.Place.{Place}

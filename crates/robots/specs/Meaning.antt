@@ -1,8 +1,8 @@
 -- What a robot means: its make-up, what each place and the hand hold, and which places are in service.
-use Rattle.std.specs.Prelude.{◌≡◌, ℕ, ◌≤◌, Bool, true, false, cond, List, length, Some, None, Option, nat_lt, slice_index, slice_index_or}
+use Rattle.std.specs.Prelude.{◌≡◌, ℕ, ◌≤◌, Bool, false, cond, List, length, Some, None, Option, nat_lt, slice_index, slice_index_or}
 use Rattle.labels.specs.Numbers.{unreadable_number}
 use Rattle.robots.specs.declared.kind.Kind.{Kind}
-use Rattle.robots.specs.declared.kind.Kind.TheVariants.{Cell, Drive, Port}
+use Rattle.robots.specs.declared.kind.Kind.TheVariants.{Cell}
 
 -- Places are numbered from 0. A cartridge number of 0 says that a place, or the hand, is empty.
 pub record Meaning : Type 0 where

@@ -1,5 +1,5 @@
 -- Receive and step: what they answer, what they leave in the buffer, and the library after them.
-use Rattle.std.specs.Prelude.{ℕ, Bool, true, false, cond, ◌||◌, List, length, Some, None, Ok, Err, Option, Result, ◌==◌, nat_eq, nat_lt}
+use Rattle.std.specs.Prelude.{ℕ, Bool, false, cond, ◌||◌, List, length, Some, None, Ok, Err, Option, Result, ◌==◌, nat_eq, nat_lt}
 use Rattle.ring.specs.Order.{any_of}
 use Rattle.requests.specs.declared.bodies.Request.{Request}
 use Rattle.requests.specs.declared.refusals.BadPacket.{BadPacket}

@@ -1,5 +1,5 @@
 -- What a request that moves cartridges does to the robot, and what its entries tell of that.
-use Rattle.std.proofs.Common.{◌≡◌, ℕ, ◌+◌, ◌-◌, ◌%◌, ◌<◌, ◌≤◌, Bool, true, false, cond, not, ◌&&◌, ◌||◌, eqb, ltb, ◌≢◌, List, [], ◌∷◌, ◌++◌, length, get_or, set, Some, None, Ok, Err, Option, Result, sym, refl, ap, ◌∙◌, subst, ⊎_elim, arith, length-set}
+use Rattle.std.proofs.Common.{◌≡◌, ℕ, ◌<◌, ◌≤◌, Bool, true, false, cond, ◌||◌, eqb, ◌≢◌, List, length, get_or, set, Some, None, Ok, Err, Option, Result, sym, refl, ap, ◌∙◌, ⊎_elim, arith, length-set}
 use mathlib.Core.Path.{subst⁻¹, fun_ext}
 use Rattle.std.proofs.lemmas.List.{get_or-set_other}
 use Rattle.std.proofs.lemmas.Bool.{cases_eq, eq-eqb, ne_eqb, cond-true}
@@ -7,7 +7,6 @@ use Rattle.std.proofs.lemmas.Bool.Decides.{nat_tests}
 use Rattle.labels.specs.Numbers.{unreadable_number}
 use Rattle.statuses.specs.declared.Status.{Status}
 use Rattle.statuses.specs.declared.Status.TheVariants as status
-use Rattle.responses.specs.declared.Entry.{Entry}
 use Rattle.robots.specs.declared.kind.Kind.{Kind}
 use Rattle.robot_moves.specs.declared.movement.Target.{Target}
 use Rattle.robot_moves.specs.declared.movement.Target.TheVariants.{At, NextCell, LowestPort}
@@ -15,8 +14,7 @@ use Rattle.robot_moves.specs.declared.movement.Moved.{Moved as Gone}
 use Rattle.robot_moves.specs.declared.movement.Stopped.{Stopped}
 use Rattle.robots.specs.Meaning.{Meaning, Sound, count, held_at}
 use Rattle.robot_moves.specs.Movement.{Movement, movement}
-use Rattle.robot_moves.specs.Search.{is_drive, of_kind}
-use Rattle.robots.specs.Cartridges.{tally, cartridges_of}
+use Rattle.robots.specs.Cartridges.{cartridges_of}
 use Rattle.robots.proofs.Acts.{tally_set}
 use Rattle.stock.specs.declared.catalogue.Row.{Row}
 use Rattle.stock.specs.declared.catalogue.Volume.{Volume}
@@ -26,7 +24,7 @@ use Rattle.stock.specs.Refusals.{in_byte, status_of}
 use Rattle.stock.specs.Filing.{volume_of, index_of}
 use Rattle.stock.specs.Holding.{held_in}
 use Rattle.stock.specs.Models.{Stocked}
-use Rattle.stock.specs.Moves.{Done, Entered, entry_for, moved, moved_as, moved_by, refused, cell_of, mounted, mounted_by, mounted_from, dismounted, dismounted_if, ejected, ejected_by, entered, entered_as, entered_by, entered_if, entered_new, stays, why_stopped}
+use Rattle.stock.specs.Moves.{Done, Entered, entry_for, moved, moved_as, moved_by, cell_of, mounted, mounted_by, mounted_from, dismounted, dismounted_if, ejected, ejected_by, entered, entered_as, entered_by, entered_if, entered_new, why_stopped}
 use Rattle.site.specs.Inventories.{Inventory, changed, port_at}
 use Rattle.site.proofs.Ways.{Moved, Way, way, cells, holding, at_set}
 use Rattle.site.proofs.Ways.Way.{stayed, went}

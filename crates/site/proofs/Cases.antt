@@ -1,30 +1,27 @@
 -- What a call can come to: a property of all outcomes is shown way by way.
-use Rattle.std.proofs.Common.{◌≡◌, ℕ, ◌<◌, ◌≤◌, Bool, true, false, cond, ltb, List, [], ◌∷◌, length, replicate, Some, None, Ok, Err, Option, Result, sym, refl, ap, ◌∙◌, subst, arith}
-use mathlib.Core.Path.{subst⁻¹}
+use Rattle.std.proofs.Common.{◌≡◌, ℕ, ◌≤◌, Bool, true, false, cond, ltb, List, length, Some, None, Ok, Err, Option, Result, refl, arith}
 use Rattle.std.proofs.lemmas.List.{length-replicate}
 use Rattle.std.proofs.lemmas.Bool.{ltb-false}
 use Rattle.requests.specs.declared.bodies.Request.{Request}
-use Rattle.requests.specs.declared.bodies.Body.{Body}
 use Rattle.requests.specs.declared.refusals.BadPacket.{BadPacket}
 use Rattle.requests.specs.Reading.{request_in}
 use Rattle.robots.specs.declared.fault.Fault.{Fault}
 use Rattle.robots.specs.Acts.{answered, left, put_refusal, take_refusal, switch_refusal, with_held, with_service}
 use Rattle.robots.specs.Meaning.{Meaning, held_at}
-use Rattle.stock.specs.Models.{Stocked}
-use Rattle.library.specs.Library.{Job, Library}
+use Rattle.library.specs.Library.{Library}
 use Rattle.receipt.specs.declared.refusal.NotReceived.{NotReceived}
 use Rattle.receipt.specs.Accepting.{Received, received, received_if, accepted, not_received, queued, queued_if, with_queued}
 use Rattle.receipt.specs.Accepting.Said.{acknowledged}
 use Rattle.receipt.specs.declared.refusal.NotReceived.TheVariants as not
 use Rattle.receipt.specs.Checking.{refusal_of}
-use Rattle.steps.specs.Stepping.{Stepped, stepped}
+use Rattle.steps.specs.Stepping.{stepped}
 use Rattle.server.specs.declared.refusal.CallRefusal.{CallRefusal}
 use Rattle.server.specs.declared.refusal.CallRefusal.TheVariants as refusal
 use Rattle.server.specs.Answers.{bad_told}
-use Rattle.server.specs.Calls.{Outcome, refused_call, receive_call, receive_read, step_call, step_outcome, said_outcome, wrote, used_by, number_read, in_use, answered_read}
+use Rattle.server.specs.Calls.{refused_call, receive_call, step_call, step_outcome, said_outcome, wrote, used_by, number_read, in_use, answered_read}
 use Rattle.server.specs.Door.{put_through, within_reach, take_through}
-use Rattle.server.specs.Hands.{Handled, told_by, put_if, take_if, service_call, why_not_put, why_not_taken, no_such_place, with_stock}
-use Rattle.server.specs.Machine.{After, Reply, replied, handled_as, is_granted, blank, when_shut, when_open, barred_call}
+use Rattle.server.specs.Hands.{told_by, put_if, take_if, service_call, why_not_put, why_not_taken, no_such_place, with_stock}
+use Rattle.server.specs.Machine.{After, replied, handled_as, is_granted, blank, when_shut, when_open, barred_call}
 use Rattle.server.specs.Machine.Reply.{refused, granted, took}
 
 -- A call that the door may bar.

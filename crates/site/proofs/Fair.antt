@@ -1,16 +1,14 @@
 -- What each call keeps.
-use Rattle.std.proofs.Common.{◌≡◌, ℕ, ◌+◌, ◌<◌, ◌≤◌, Bool, true, false, cond, ◌&&◌, ◌||◌, eqb, ltb, List, [], ◌∷◌, ◌++◌, map, length, set, Some, None, Ok, Err, Option, Result, sym, refl, ap, ◌∙◌, subst, append_assoc, append-nil, add-zero, arith}
+use Rattle.std.proofs.Common.{◌≡◌, ℕ, ◌+◌, ◌<◌, ◌≤◌, Bool, true, false, cond, ◌&&◌, ◌||◌, eqb, ltb, List, [], ◌∷◌, ◌++◌, map, set, Some, None, Ok, Err, Option, Result, sym, refl, ap, ◌∙◌, subst, append_assoc, append-nil, arith}
 use mathlib.Core.Path.{subst⁻¹}
 use Rattle.std.proofs.lemmas.List.{map-append}
-use Rattle.std.proofs.lemmas.Bool.{and_right, or_parts, true≢false, false≢true, eq-eqb, ne_eqb}
+use Rattle.std.proofs.lemmas.Bool.{and_right, or_parts, true≢false, eq-eqb, ne_eqb}
 use Rattle.std.proofs.lemmas.Bool.Decides.{nat_tests}
 use Rattle.labels.specs.Numbers.{number_of, unreadable_number}
 use Rattle.labels.specs.declared.Label.{Label}
 use Rattle.statuses.specs.declared.Status.TheVariants.{Success}
 use Rattle.requests.specs.declared.bodies.Body.{Body}
 use Rattle.requests.specs.declared.bodies.Body.TheVariants as body
-use Rattle.requests.specs.declared.bodies.Mark.{Mark}
-use Rattle.requests.specs.declared.bodies.Mark.TheVariants.{Cancelled}
 use Rattle.requests.specs.declared.bodies.Request.{Request}
 use Rattle.requests.specs.declared.refusals.BadPacket.{BadPacket}
 use Rattle.responses.specs.declared.Entry.{Entry}
@@ -18,9 +16,9 @@ use Rattle.responses.specs.Responses.{Told}
 use Rattle.responses.specs.RoundTrips.{filled}
 use Rattle.robots.specs.declared.kind.Kind.{Kind}
 use Rattle.robots.specs.Meaning.{Meaning, Sound, count, held_at}
-use Rattle.robots.specs.Acts.{put_refusal, take_refusal, switch_refusal, with_held, with_service}
+use Rattle.robots.specs.Acts.{put_refusal, take_refusal, with_held, with_service}
 use Rattle.robots.specs.Cartridges.{cartridges_of}
-use Rattle.robot_moves.specs.Search.{is_port, next_full_port, of_kind}
+use Rattle.robot_moves.specs.Search.{is_port, of_kind}
 use Rattle.robots.proofs.Acts.{tally_set}
 use Rattle.stock.specs.declared.catalogue.Row.{Row}
 use Rattle.stock.specs.declared.refusal.Refusal.{Refusal}
@@ -28,41 +26,40 @@ use Rattle.stock.specs.Moves.{entry_for, located_by}
 use Rattle.stock.specs.Filing.{volume_of}
 use Rattle.library.specs.Library.{Job, Library, unanswered, working}
 use Rattle.library.specs.Finals.{FinalFor}
-use Rattle.library.specs.Marks.{aborted, at_work, cancelled, cancelled_if, cancels, with_mark}
+use Rattle.library.specs.Marks.{aborted, at_work, cancelled, cancelled_if, cancels}
 use Rattle.library.specs.Turns.{Turned, Going}
 use Rattle.library.specs.Turns.Going.{stays, ends}
 use Rattle.receipt.specs.declared.refusal.NotReceived.{NotReceived}
 use Rattle.receipt.specs.declared.refusal.NotReceived.TheVariants.{LibraryBusy}
-use Rattle.library.specs.Verdicts.{Ending, Shown, done_with, moved_verdict, refused_by}
-use Rattle.library.specs.Verdicts.Shown.{nothing, listed, inventory}
-use Rattle.receipt.specs.Accepting.{Received, accepted, answering, found, found_as, idle_accepted, not_received, queried, queued, received, with_cancelled, with_forced, with_queued, with_varied}
+use Rattle.library.specs.Verdicts.{Ending, Shown, done_with, moved_verdict}
+use Rattle.library.specs.Verdicts.Shown.{nothing, listed}
+use Rattle.receipt.specs.Accepting.{accepted, answering, found_as, idle_accepted, not_received, queried, queued, with_cancelled, with_forced, with_queued, with_varied}
 use Rattle.receipt.specs.Accepting.Said.{acknowledged as said-taken}
 use Rattle.receipt.specs.Checking.{refusal_of}
-use Rattle.steps.specs.Stepping.{Stepped, final_after, finished, stepped, stepped_by, work_after}
-use Rattle.steps.specs.Turning.{continued, taken}
+use Rattle.steps.specs.Stepping.{final_after, finished, stepped_by, work_after}
 use Rattle.server.specs.declared.refusal.CallRefusal.{CallRefusal}
 use Rattle.server.specs.declared.refusal.CallRefusal.TheVariants.{EnterAtWork, NotPort, NoPlace}
-use Rattle.server.specs.Answers.{acknowledge_told, bad_told, final_told, said_told, shown_entries}
+use Rattle.server.specs.Answers.{acknowledge_told, bad_told, final_told, shown_entries}
 use Rattle.server.specs.Calls.{in_use, work_has, said_outcome, step_outcome, step_writes, wrote}
 use Rattle.server.specs.Door.{message_call, open_call, shut_call, within_reach}
-use Rattle.server.specs.Hands.{entering, is_enter}
-use Rattle.server.specs.Machine.{After, Call, Event, Reply, after, barred_call, blank, message_after, replied}
+use Rattle.server.specs.Hands.{entering}
+use Rattle.server.specs.Machine.{After, Call, after, barred_call, blank, message_after, replied}
 use Rattle.server.specs.Machine.Call.{receive, step, put, take_out, service, open-door, shut-door, message}
-use Rattle.server.specs.Machine.Reply.{response, granted, took, messaged, refused, barred}
+use Rattle.server.specs.Machine.Reply.{granted, took, refused, barred}
 use Rattle.site.specs.Hearing.{acknowledged_in, finished_in, heard, is_step}
 use Rattle.site.specs.Cartridges.{brings, if_granted, removes}
 use Rattle.site.specs.Inventories.{Inventory, all, changed_by, ended_if, entries_in, port_at, told, told_more}
 use Rattle.responses.specs.Reading.{response_in}
-use Rattle.site.specs.Turns.{is_working, nothing_in, numbers_of, step_made, was_made, wrote_nothing}
+use Rattle.site.specs.Turns.{is_working, nothing_in, numbers_of, was_made, wrote_nothing}
 use Rattle.ring.specs.Order.{any_of}
 use Rattle.site.specs.Law.{Distinct, Each, EntryRoom, has}
-use Rattle.site.proofs.Ways.{cells, holding, port_of}
+use Rattle.site.proofs.Ways.{port_of}
 use Rattle.site.proofs.Carried.{at_port, unchanged}
 use Rattle.site.proofs.Cases.{if_shut, if_open, unmade, blank-length, receive-cases, step-cases, received_cases, queued_cases, put-cases, take_cases, switch-cases, with_robot}
-use Rattle.site.proofs.Good.{Good, JobGood, WorkGood}
+use Rattle.site.proofs.Good.{Good, WorkGood}
 use Rattle.site.proofs.Sane.{Booked, GoingGood, Proper, Sane, entries_so_far, heard_end, hearing, now_started, so_far}
 use Rattle.site.proofs.Turns.{each_map, each_to, taken_proper, later_proper}
-use Rattle.site.proofs.Written.{ShownGood, Writable, heard-wrote, writable_final}
+use Rattle.site.proofs.Written.{Writable, heard-wrote, writable_final}
 
 abbrev pub some_left : List ℕ → Bool
 some_left [] = false

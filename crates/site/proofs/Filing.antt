@@ -1,8 +1,8 @@
 -- The catalogue stays true while cartridges move.
-use Rattle.std.proofs.Common.{◌≡◌, ℕ, ◌+◌, ◌-◌, ◌<◌, ◌≤◌, Bool, true, false, cond, not, ◌&&◌, ◌||◌, eqb, ltb, ◌≢◌, List, [], ◌∷◌, ◌++◌, length, get_or, take, drop, set, Some, None, Ok, Err, Option, Result, sym, refl, ap, ◌∙◌, subst, ⊎_elim, arith, length-append, length-set}
+use Rattle.std.proofs.Common.{◌≡◌, ℕ, ◌+◌, ◌<◌, ◌≤◌, Bool, true, false, cond, not, ◌&&◌, ◌||◌, eqb, ltb, ◌≢◌, List, [], ◌∷◌, ◌++◌, length, get_or, set, Some, None, Ok, Err, Option, Result, sym, refl, ap, ◌∙◌, ⊎_elim, arith, length-append, length-set}
 use mathlib.Core.Path.{subst⁻¹}
 use Rattle.std.proofs.lemmas.List.{get_or-set_same, get_or-set_other}
-use Rattle.std.proofs.lemmas.Bool.{and_parts, cases_eq, cases_Bool, eq-eqb, ne_eqb, eqb-true, eqb-false, cond-true, cond-false, le-ltb, lt-ltb, cases_lt, true≢false}
+use Rattle.std.proofs.lemmas.Bool.{and_parts, cases_eq, eq-eqb, ne_eqb, cond-true, cond-false, le-ltb, lt-ltb, cases_lt, true≢false}
 use Rattle.std.proofs.lemmas.Bool.Decides.{nat_tests}
 use Rattle.labels.specs.Numbers.{unreadable_number}
 use Rattle.robots.specs.declared.kind.Kind.{Kind}
@@ -11,9 +11,9 @@ use Rattle.robot_moves.specs.declared.movement.Target.{Target}
 use Rattle.robot_moves.specs.declared.movement.Target.TheVariants.{At, NextCell, LowestPort}
 use Rattle.robot_moves.specs.declared.movement.Moved.{Moved as Gone}
 use Rattle.robot_moves.specs.declared.movement.Stopped.{Stopped}
-use Rattle.robot_moves.specs.declared.search.Wanted.TheVariants.{FreeCell, FreePort, FullPort}
+use Rattle.robot_moves.specs.declared.search.Wanted.TheVariants.{FreeCell, FreePort}
 use Rattle.robots.specs.Meaning.{Meaning, Sound, count, held_at, kind_of}
-use Rattle.robot_moves.specs.Movement.{Movement, movement, sought}
+use Rattle.robot_moves.specs.Movement.{Movement, sought}
 use Rattle.robot_moves.specs.Search.{is_cell, is_drive, is_port, of_kind, passes, next_free_cell, up_to}
 use Rattle.robot_moves.proofs.Places.{first_passes}
 use Rattle.stock.specs.declared.catalogue.Filed.{Filed}
@@ -21,17 +21,16 @@ use Rattle.stock.specs.declared.catalogue.Row.{Row}
 use Rattle.stock.specs.declared.catalogue.Volume.{Volume}
 use Rattle.stock.specs.declared.catalogue.Volume.TheVariants.{One, Several}
 use Rattle.stock.specs.declared.refusal.Refusal.{Refusal}
-use Rattle.stock.specs.Filing.{filed_more, index_of, no_row, refiled, unfiled, volume_of}
+use Rattle.stock.specs.Filing.{index_of, no_row, refiled, unfiled, volume_of}
 use Rattle.stock.specs.Holding.{held_in, readable, shown_at}
 use Rattle.stock.specs.Models.{Stocked}
-use Rattle.stock.specs.Moves.{Done, Entered, cell_by, cell_of, dismounted, dismounted_if, ejected, ejected_by, entered, entered_as, entered_by, entered_if, entered_new, located_by, mounted, mounted_by, mounted_from, moved, moved_as, moved_by, not_in_drive, row_follows}
-use Rattle.stock.specs.Starts.{fit, read_at, read_if}
-use Rattle.site.specs.Catalogues.{CatalogueTrue, due, filings}
+use Rattle.stock.specs.Moves.{cell_by, cell_of, dismounted, dismounted_if, ejected, ejected_by, entered, entered_as, entered_by, entered_if, entered_new, located_by, mounted, mounted_by, mounted_from, moved_as, moved_by, not_in_drive, row_follows}
+use Rattle.stock.specs.Starts.{read_at, read_if}
+use Rattle.site.specs.Catalogues.{CatalogueTrue, filings}
 use Rattle.site.specs.Inventories.{port_at}
-use Rattle.site.proofs.Ways.{Moved, Way, way, cells, holding, at_set, held_is, shown_cells, sound_moved, way_sound}
+use Rattle.site.proofs.Ways.{Moved, Way, way, cells, holding, held_is, shown_cells, sound_moved}
 use Rattle.site.proofs.Ways.Way.{stayed, went}
-use Rattle.site.proofs.Good.{Partial}
-use Rattle.site.proofs.Lookups.{RowAt, one_row, no_row_holds, row_filed, index_row, no_index}
+use Rattle.site.proofs.Lookups.{RowAt, one_row, row_filed, index_row, no_index}
 use Rattle.site.proofs.Rows.{due_is, none_past, filings-more, filings-set, filings-without, matches, none_owed, one_if, owed, owed_held, true_few}
 
 -- The rows of a catalogue, by what each place holds.

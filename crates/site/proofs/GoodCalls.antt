@@ -1,53 +1,39 @@
 -- What is true of a library stays true by every call.
-use Rattle.std.proofs.Common.{◌≡◌, ℕ, ◌+◌, ◌<◌, ◌≤◌, Bool, true, false, cond, not, ◌&&◌, ◌||◌, eqb, ltb, leb, List, [], ◌∷◌, ◌++◌, map, length, set, Some, None, Ok, Err, Option, Result, sym, refl, ap, ◌∙◌, subst, append_assoc, arith, length-set}
+use Rattle.std.proofs.Common.{◌≡◌, ℕ, ◌+◌, ◌≤◌, Bool, true, false, cond, ◌&&◌, eqb, ltb, List, [], ◌∷◌, ◌++◌, map, length, set, Some, None, Option, sym, refl, ap, ◌∙◌, subst, append_assoc, arith}
 use mathlib.Core.Path.{subst⁻¹}
-use Rattle.std.proofs.lemmas.Bool.{and_parts, eq-eqb, eqb-true, false≢true, true≢false}
-use Rattle.std.proofs.lemmas.Bool.Decides.{nat_tests}
-use Rattle.labels.specs.Numbers.{number_of, unreadable_number}
-use Rattle.labels.specs.declared.Label.{Label}
+use Rattle.std.proofs.lemmas.Bool.{and_parts, eqb-true, false≢true, true≢false}
 use Rattle.requests.specs.declared.bodies.Body.{Body}
 use Rattle.requests.specs.declared.bodies.Body.TheVariants as body
-use Rattle.requests.specs.declared.bodies.DriveSetting.{DriveSetting}
 use Rattle.requests.specs.declared.bodies.Mark.{Mark}
 use Rattle.requests.specs.declared.bodies.Mark.TheVariants.{Unmarked, Cancelled, Aborted}
 use Rattle.requests.specs.declared.bodies.Request.{Request}
-use Rattle.robots.specs.Meaning.{Meaning, Sound, count, held_at}
-use Rattle.robots.specs.Acts.{put_refusal, take_refusal, switch_refusal, with_held, with_service}
-use Rattle.robot_moves.specs.Search.{is_drive, of_kind, ports_among, up_to}
-use Rattle.stock.specs.declared.catalogue.Filed.{Filed}
+use Rattle.robots.specs.Meaning.{Meaning, Sound}
+use Rattle.robot_moves.specs.Search.{is_drive, of_kind, up_to}
 use Rattle.stock.specs.Models.{Stocked}
 use Rattle.stock.specs.Starts.{fit}
 use Rattle.library.specs.declared.state.State.{State}
 use Rattle.library.specs.declared.state.State.TheVariants as state
 use Rattle.library.specs.Library.{Job, Library, unanswered, working}
-use Rattle.library.specs.Marks.{aborted, aborted_mark, at_work, cancelled, cancelled_if, cancels, is_unmarked, names_drive, with_mark}
+use Rattle.library.specs.Marks.{aborted, aborted_mark, at_work, cancelled, cancelled_if, cancels, is_unmarked, names_drive}
 use Rattle.library.specs.Turns.{Turned, Going}
 use Rattle.library.specs.Turns.Going.{stays, ends}
-use Rattle.receipt.specs.declared.refusal.NotReceived.{NotReceived}
 use Rattle.receipt.specs.declared.refusal.NotReceived.TheVariants as not
-use Rattle.receipt.specs.Accepting.{Received, accepted, idle_accepted, queued, queued_state, received, with_cancelled, with_forced, with_queued, with_varied}
-use Rattle.receipt.specs.Checking.{body_refusal, drive_online, drive_refusal, drive_there, idle_refusal, refusal_if, refusal_of, served, start_refusal}
-use Rattle.steps.specs.Stepping.{finished, library_after, stepped, stepped_by, work_after}
-use Rattle.server.specs.Calls.{said_outcome, step_outcome, step_writes}
-use Rattle.library.specs.Finals.{FinalFor}
-use Rattle.server.specs.Door.{message_call, open_call, within_reach, shut_call, with_door}
+use Rattle.receipt.specs.Accepting.{Received, accepted, queued, queued_state, received, with_cancelled, with_forced, with_queued}
+use Rattle.receipt.specs.Checking.{body_refusal, drive_online, drive_refusal, drive_there, idle_refusal, refusal_if, served, start_refusal}
+use Rattle.steps.specs.Stepping.{library_after, stepped_by, work_after}
+use Rattle.server.specs.Door.{with_door}
 use Rattle.server.specs.Hands.{is_enter}
-use Rattle.server.specs.Machine.{After, Call, after, blank, replied}
-use Rattle.server.specs.Machine.Call.{receive, step, put, take_out, service, open-door, shut-door, message}
-use Rattle.site.specs.Catalogues.{CatalogueTrue, due, filing, filings}
-use Rattle.site.specs.Inventories.{port_at}
+use Rattle.site.specs.Catalogues.{CatalogueTrue, filing, filings}
 use Rattle.site.specs.Law.{Each, EntryRoom, is_start, moves}
-use Rattle.site.proofs.Ways.{cells, holding, sound_set}
-use Rattle.site.proofs.Carried.{at_port}
-use Rattle.site.proofs.Cases.{if_shut, if_open, receive-cases, step-cases, received_cases, queued_cases, put-cases, take_cases, switch-cases, with_robot}
-use Rattle.site.proofs.Good.{Good, JobGood, Partial, Suited, WorkGood, in_idle, in_idle_pending, in_recovery, is_idle, unmarked_of}
-use Rattle.site.proofs.Filing.{Rows, rows_of, true_of}
+use Rattle.site.proofs.Ways.{cells}
+use Rattle.site.proofs.Cases.{received_cases, queued_cases, with_robot}
+use Rattle.site.proofs.Good.{Good, JobGood, Suited, WorkGood, in_idle, in_idle_pending, in_recovery, is_idle, unmarked_of}
+use Rattle.site.proofs.Filing.{rows_of, true_of}
 use Rattle.site.proofs.Ports.{fit-kinds, of-kinds, ports-kinds}
 use Rattle.site.proofs.Sane.{Proper}
 use Rattle.site.proofs.Turns.{taken_proper, later_proper, each_to}
 use Rattle.site.proofs.GoodTurns.{Left, Ready, below_of, partial_of, taken_left, later_left}
-use Rattle.site.proofs.Rows.{due_is, owed}
-use Rattle.site.proofs.Fair.{at-the-port}
+use Rattle.site.proofs.Rows.{owed}
 
 -- Requests marked anew: none is unmarked that was not, and bodies stay.
 pub record Marks (g : Request → Request) : Type 0 where

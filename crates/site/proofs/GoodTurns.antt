@@ -1,7 +1,7 @@
 -- What each turn leaves true of the library.
-use Rattle.std.proofs.Common.{◌≡◌, ℕ, ◌+◌, ◌-◌, ◌<◌, ◌≤◌, Bool, true, false, cond, not, ◌&&◌, ◌||◌, eqb, ltb, ◌≢◌, List, [], ◌∷◌, ◌++◌, length, get_or, set, Some, None, Ok, Err, Option, Result, sym, refl, ap, ◌∙◌, subst, ⊎_elim, arith, length-append}
+use Rattle.std.proofs.Common.{◌≡◌, ℕ, ◌+◌, ◌-◌, ◌<◌, ◌≤◌, Bool, true, false, cond, ltb, ◌≢◌, List, [], ◌∷◌, ◌++◌, length, set, Some, None, Option, Result, sym, refl, ap, ◌∙◌, arith, length-append}
 use mathlib.Core.Path.{subst⁻¹}
-use Rattle.std.proofs.lemmas.Bool.{cond-true, cond-false, le-ltb, eq-eqb, false≢true, true≢false, ltb-true, ltb-false}
+use Rattle.std.proofs.lemmas.Bool.{cond-false, le-ltb, eq-eqb, false≢true, ltb-true, ltb-false}
 use Rattle.labels.specs.Numbers.{number_of, unreadable_number}
 use Rattle.requests.specs.declared.bodies.Body.{Body}
 use Rattle.requests.specs.declared.bodies.Body.TheVariants as body
@@ -13,37 +13,34 @@ use Rattle.responses.specs.RoundTrips.{Entered}
 use Rattle.robots.specs.declared.fault.Fault.{Fault}
 use Rattle.robot_moves.specs.declared.movement.Stopped.{Stopped}
 use Rattle.robots.specs.Meaning.{Meaning, Sound, count, held_at}
-use Rattle.robots.specs.Acts.{left, set_down, with_held}
+use Rattle.robots.specs.Acts.{left, with_held}
 use Rattle.robot_moves.specs.Movement.{Emptying}
-use Rattle.robot_moves.specs.Search.{is_drive, next_full_port, of_kind, ports_among, up_to}
+use Rattle.robot_moves.specs.Search.{next_full_port, up_to}
 use Rattle.stock.specs.declared.catalogue.Filed.{Filed}
-use Rattle.stock.specs.Holding.{held_in}
 use Rattle.stock.specs.Models.{Stocked}
 use Rattle.stock.specs.Moves.{Done, Entered as EnteredOne, dismounted, ejected, entered, mounted}
-use Rattle.stock.specs.Starts.{Begun, begun_if, cleared_as, cleared_by, fit, read_at}
+use Rattle.stock.specs.Starts.{begun_if, cleared_as, cleared_by, fit, read_at}
 use Rattle.library.specs.declared.state.State.{State}
 use Rattle.library.specs.declared.state.State.TheVariants as state
 use Rattle.library.specs.Library.{Job, working}
 use Rattle.library.specs.Entering.{entries_more}
-use Rattle.library.specs.Marks.{is_unmarked, names_drive}
+use Rattle.library.specs.Marks.{is_unmarked}
 use Rattle.library.specs.Turns.{Turned, Going}
 use Rattle.library.specs.Turns.Going.{stays, ends}
 use Rattle.library.specs.Verdicts.{Ending}
 use Rattle.steps.specs.Stepping.{work_after}
-use Rattle.steps.specs.Turning.{at_once, begun, continued, enter_on, entered_turn, gone_on, moved_turn, start_on_if, start_taken, taken}
-use Rattle.server.specs.Hands.{is_enter}
+use Rattle.steps.specs.Turning.{begun, continued, enter_on, gone_on, moved_turn, start_on_if, start_taken, taken}
 use Rattle.site.specs.Catalogues.{filing}
-use Rattle.site.specs.Law.{is_start, moves}
+use Rattle.site.specs.Law.{is_start}
 use Rattle.site.proofs.Ways.{holding, held_is}
 use Rattle.site.proofs.Carried.{Treated, treated-entered}
 use Rattle.site.proofs.Carried.Treated.{kept, treated}
-use Rattle.site.proofs.Filing.{Rows, RowsBelow, TrueAfter, none_read, read_length, rows_read, rows_whole, true-dismounted, true-ejected, true-entered, true-mounted}
+use Rattle.site.proofs.Filing.{Rows, RowsBelow, TrueAfter, read_length, rows_read, rows_whole, true-dismounted, true-ejected, true-entered, true-mounted}
 use Rattle.site.proofs.Rows.{due_is}
-use Rattle.site.proofs.Ports.{FullAt, fit-kinds, fit_some, full_at, port_there, ports_few, ports-kinds, ports_passed}
+use Rattle.site.proofs.Ports.{fit-kinds, fit_some, full_at, port_there, ports-kinds, ports_passed}
 use Rattle.site.proofs.Good.{JobGood, Suited, WorkGood, in_idle_pending, in_recovery, is_idle, unmarked_of, Partial}
-use Rattle.site.proofs.Turns.{Clears, clears, fit_few, taken_proper, later_proper}
+use Rattle.site.proofs.Turns.{Clears, clears, fit_few, taken_proper}
 use Rattle.site.proofs.Turns.Clears.{empty-already, no_cell, set-down}
-use Rattle.site.proofs.Sane.{Proper}
 
 -- A start that has read nothing, and what it has read by what places hold.
 partial_none : (m : Meaning) → Partial 0 [] m

@@ -1,30 +1,23 @@
 -- The law, from what each call keeps.
-use Rattle.std.proofs.Common.{◌≡◌, ℕ, ◌+◌, ◌<◌, ◌≤◌, Bool, true, false, cond, ◌&&◌, ◌||◌, ltb, List, [], ◌∷◌, ◌++◌, length, take, drop, Some, None, fold, sum_by, Option, sym, refl, ap, ◌∙◌, subst, append_assoc, append-nil, add-zero, arith, length-append}
+use Rattle.std.proofs.Common.{◌≡◌, ℕ, ◌+◌, ◌<◌, Bool, true, false, cond, ◌&&◌, ltb, List, [], ◌∷◌, ◌++◌, length, None, sum_by, Option, sym, refl, ap, ◌∙◌, subst, append_assoc, add-zero, arith, length-append}
 use mathlib.Core.Path.{subst⁻¹}
-use Rattle.std.proofs.lemmas.List.{drop_at}
 use Rattle.std.proofs.lemmas.List.Sums.{fold_push, sum_by_push}
-use Rattle.std.proofs.lemmas.Bool.{cases_Bool, lt-ltb, le-ltb, or_parts}
-use Rattle.responses.specs.declared.Entry.{Entry}
+use Rattle.std.proofs.lemmas.Bool.{lt-ltb, le-ltb}
 use Rattle.responses.specs.Responses.{Told}
-use Rattle.responses.specs.Reading.{response_in}
 use Rattle.robots.specs.declared.kind.Kind.{Kind}
-use Rattle.robots.specs.Meaning.{Meaning, Sound, count}
+use Rattle.robots.specs.Meaning.{Meaning}
 use Rattle.robots.specs.Cartridges.{cartridges_of}
-use Rattle.stock.specs.Holding.{shown_at}
-use Rattle.library.specs.Library.{Job, Library, unanswered}
-use Rattle.library.specs.Making.{fresh}
-use Rattle.server.specs.Machine.{After, Call, Event, Reply, after, history, stands}
+use Rattle.library.specs.Library.{Library, unanswered}
+use Rattle.server.specs.Machine.{After, Call, Event, Reply}
 use Rattle.server.specs.Machine.Reply.{response, granted, took, messaged, refused, barred}
 use Rattle.site.specs.Hearing.{acknowledged, acknowledged_by, acknowledged_in, answered, answered_by, finished_in, gathered, heard, is_step, started, started_by}
 use Rattle.site.specs.Cartridges.{puts, takes}
-use Rattle.site.specs.Inventories.{Inventory, changed_by, ended_if, inventories, inventories_after}
-use Rattle.site.specs.Turns.{Judged, Left, is_working, judge, judged, left, left_by, nothing_in, numbers_of, own_left, was_made, wrote_nothing}
-use Rattle.site.specs.Law.{Agrees, Distinct, Each, EntryRoom, Law, RowRoom, Upheld, has, in_use}
-use Rattle.site.proofs.Ways.{cells, shown_cells}
+use Rattle.site.specs.Inventories.{Inventory, ended_if, inventories, inventories_after}
+use Rattle.site.specs.Turns.{Judged, is_working, judge, judged, numbers_of, was_made, wrote_nothing}
+use Rattle.site.specs.Law.{Distinct}
 use Rattle.site.proofs.Good.{Good}
-use Rattle.site.proofs.Sane.{Booked, Sane, entries_so_far, hearing, now_started}
-use Rattle.site.proofs.Turns.{each_to}
-use Rattle.site.proofs.Fair.{Fair, QueryGood, fair, reads_none, some_left}
+use Rattle.site.proofs.Sane.{Sane, hearing, now_started}
+use Rattle.site.proofs.Fair.{Fair, reads_none, some_left}
 
 -- Of the judgement from outside: what it has counted, and that it judges rightly whether a request is at work.
 pub record Rightly (es : List Event) (l : Library) : Type 0 where

@@ -1,8 +1,8 @@
 -- The law holds of every run.
-use Rattle.std.proofs.Common.{◌≡◌, ℕ, zero, suc, ◌+◌, ◌<◌, ◌≤◌, Bool, true, false, cond, ◌&&◌, ◌||◌, eqb, ltb, ◌≢◌, List, [], ◌∷◌, ◌++◌, map, length, get_or, take, drop, set, Some, None, Ok, Err, Option, Result, sym, refl, ap, ◌∙◌, subst, ⊎_elim, append_assoc, append-nil, arith, length-append, length-set}
+use Rattle.std.proofs.Common.{◌≡◌, ℕ, zero, suc, ◌<◌, ◌≤◌, Bool, true, false, cond, ◌||◌, ◌≢◌, List, [], ◌∷◌, ◌++◌, map, length, take, drop, set, Some, None, Option, sym, refl, ap, ◌∙◌, subst, append_assoc, append-nil, arith, length-append, length-set}
 use mathlib.Core.Path.{subst⁻¹}
 use Rattle.std.proofs.lemmas.List.{drop_at, get_or-set_same, get_or-set_other}
-use Rattle.std.proofs.lemmas.Bool.{and_parts, cases_eq, cond-false, eqb-true, false≢true, true≢false}
+use Rattle.std.proofs.lemmas.Bool.{cond-false, false≢true, true≢false}
 use Rattle.std.proofs.lemmas.Bool.Decides.{nat_tests}
 use Rattle.labels.specs.declared.Label.{Label}
 use Rattle.labels.specs.Numbers.{number_of, unreadable_number}
@@ -11,30 +11,25 @@ use Rattle.requests.specs.declared.bodies.Body.TheVariants as body
 use Rattle.requests.specs.declared.bodies.Request.{Request}
 use Rattle.responses.specs.declared.Entry.{Entry}
 use Rattle.ring.specs.Order.{any_of}
-use Rattle.robot_moves.specs.declared.search.Wanted.TheVariants.{FreeCell}
 use Rattle.robots.specs.Meaning.{Meaning, Sound, count, held_at}
-use Rattle.robots.specs.Acts.{put_refusal, take_refusal, with_held, with_service}
-use Rattle.robot_moves.specs.Search.{is_cell, next_full_port, of_kind, passes}
+use Rattle.robots.specs.Acts.{with_held, with_service}
 use Rattle.stock.specs.declared.catalogue.Filed.{Filed}
-use Rattle.stock.specs.declared.catalogue.Row.{Row}
 use Rattle.stock.specs.Filing.{volume_of}
-use Rattle.stock.specs.Holding.{readable}
-use Rattle.stock.specs.Moves.{located_by}
 use Rattle.stock.specs.Starts.{fit}
 use Rattle.library.specs.declared.state.State.{State}
 use Rattle.library.specs.declared.state.State.TheVariants as state
 use Rattle.library.specs.Finals.{FinalFor}
 use Rattle.library.specs.Library.{Job, Library, unanswered, working}
 use Rattle.library.specs.Making.{fresh}
-use Rattle.receipt.specs.Checking.{refusal_of, served}
+use Rattle.receipt.specs.Checking.{served}
 use Rattle.steps.specs.Stepping.{stepped}
-use Rattle.server.specs.Calls.{step_outcome, step_writes}
+use Rattle.server.specs.Calls.{step_writes}
 use Rattle.server.specs.Hands.{is_enter}
 use Rattle.server.specs.Machine.{After, Call, Event, Reply, after, blank, history, replied, stands}
 use Rattle.server.specs.Machine.Call.{receive, step, put, take_out, service, open-door, shut-door, message}
-use Rattle.site.specs.Hearing.{acknowledged, answered}
+use Rattle.site.specs.Hearing.{answered}
 use Rattle.site.specs.Inventories.{Inventory, changed_by, inventories, port_at}
-use Rattle.site.specs.Turns.{Judged, is_working, judged, left, numbers_of, own_left}
+use Rattle.site.specs.Turns.{is_working, left, numbers_of}
 use Rattle.site.specs.Catalogues.{filing}
 use Rattle.site.specs.Law.{Agrees, Distinct, Each, EntryRoom, Law, RowRoom, StartRoom, Upheld, events_of, in_use, moves}
 use Rattle.site.proofs.Ways.{cells, holding, shown_cells, sound_set}
@@ -44,11 +39,11 @@ use Rattle.site.proofs.Good.{Good, JobGood, Suited, WorkGood}
 use Rattle.site.proofs.Rows.{filings-more, true_few}
 use Rattle.site.proofs.Filing.{Rows, free_cell, located-row, not_none, row_comes, rows_of, true_row}
 use Rattle.site.proofs.Ports.{full_at, ports_few}
-use Rattle.site.proofs.Sane.{Booked, Sane, entries_so_far}
+use Rattle.site.proofs.Sane.{Booked, entries_so_far}
 use Rattle.site.proofs.Turns.{each_to, fit_few}
-use Rattle.site.proofs.Fair.{Fair, QueryGood, at-the-port, fair}
+use Rattle.site.proofs.Fair.{QueryGood, at-the-port, fair}
 use Rattle.site.proofs.GoodCalls.{good_forced, good_received, good_stepped, good_touched, served_parts}
-use Rattle.site.proofs.Kept.{Kept, Rightly, next}
+use Rattle.site.proofs.Kept.{Kept, next}
 
 -- An enter moves cartridges.
 enter_moves : (b : Body) → is_enter b ≡ true → moves b ≡ true

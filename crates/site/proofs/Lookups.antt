@@ -1,13 +1,12 @@
 -- What a lookup in the catalogue tells of its rows.
-use Rattle.std.proofs.Common.{◌≡◌, ℕ, zero, suc, ◌+◌, ◌-◌, ◌<◌, ◌≤◌, Bool, true, false, cond, ◌&&◌, eqb, ◌≢◌, List, [], ◌∷◌, ◌++◌, length, get_or, Some, None, Option, sym, refl, ap, ◌∙◌, subst, ⊎_elim, arith}
+use Rattle.std.proofs.Common.{◌≡◌, ℕ, zero, suc, ◌+◌, ◌-◌, ◌<◌, ◌≤◌, Bool, true, false, cond, ◌&&◌, eqb, List, [], ◌∷◌, length, get_or, Some, None, Option, sym, refl, ap, ◌∙◌, subst, arith}
 use mathlib.Core.Path.{subst⁻¹}
-use Rattle.std.proofs.lemmas.Bool.{cases_Bool, eqb-true, eqb-false, eq-eqb, ne_eqb}
-use Rattle.std.proofs.lemmas.Bool.Decides.{nat_tests}
+use Rattle.std.proofs.lemmas.Bool.{eqb-true, eq-eqb}
 use Rattle.stock.specs.declared.catalogue.Filed.{Filed}
 use Rattle.stock.specs.declared.catalogue.Row.{Row}
 use Rattle.stock.specs.declared.catalogue.Volume.{Volume}
 use Rattle.stock.specs.declared.catalogue.Volume.TheVariants.{One, Several}
-use Rattle.stock.specs.Filing.{index_from, index_of, no_row, one_more, seen, volume_from, volume_of}
+use Rattle.stock.specs.Filing.{index_from, index_of, no_row, one_more, volume_from, volume_of}
 use Rattle.site.specs.Catalogues.{filings}
 
 -- The row i of a catalogue is that of k at p.

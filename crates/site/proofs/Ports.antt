@@ -1,14 +1,13 @@
 -- What the make-up alone decides, and how many port places lie below a place.
-use Rattle.std.proofs.Common.{◌≡◌, ℕ, zero, suc, ◌+◌, ◌-◌, ◌<◌, ◌≤◌, Bool, true, false, cond, not, ◌&&◌, eqb, ltb, leb, ◌≢◌, List, [], ◌∷◌, ◌++◌, length, get_or, Some, None, Option, sym, refl, ap, ◌∙◌, subst, ⊎_elim, add-zero, arith}
-use mathlib.Core.Path.{subst⁻¹}
+use Rattle.std.proofs.Common.{◌≡◌, ℕ, zero, suc, ◌+◌, ◌-◌, ◌<◌, ◌≤◌, Bool, true, false, cond, not, ◌&&◌, eqb, ltb, leb, ◌≢◌, List, [], ◌∷◌, length, get_or, Some, sym, refl, ap, ◌∙◌, subst, arith}
 use Rattle.std.specs.List.{range_with_len}
-use Rattle.std.proofs.lemmas.Bool.{and_parts, cases_Bool, cond-true, eqb-false}
+use Rattle.std.proofs.lemmas.Bool.{and_parts, cond-true, eqb-false}
 use Rattle.std.proofs.lemmas.Bool.Decides.{nat_tests}
 use Rattle.robots.specs.declared.kind.Kind.{Kind}
 use Rattle.robots.specs.declared.kind.Kind.TheVariants.{Cell}
 use Rattle.robot_moves.specs.declared.search.Wanted.{Wanted}
 use Rattle.robot_moves.specs.declared.search.Wanted.TheVariants.{FullPort}
-use Rattle.robots.specs.Meaning.{Meaning, Sound, count, held_at, kind_of}
+use Rattle.robots.specs.Meaning.{Meaning, count, held_at}
 use Rattle.robot_moves.specs.Search.{first_of, is_port, next_full_port, of_kind, passes, port_count, ports_among, up_to}
 use Rattle.robot_moves.proofs.Places.{first_passes}
 use Rattle.stock.specs.Starts.{fit}

@@ -1,14 +1,14 @@
 -- A refused call changes nothing.
-use Rattle.std.proofs.Common.{◌≡◌, ℕ, Bool, List, Some, None, Option, refl, arith}
+use Rattle.std.proofs.Common.{◌≡◌, ℕ, List, Some, None, Option, refl, arith}
 use Rattle.library.specs.declared.message.Message.{Message}
 use Rattle.library.specs.Library.{Library}
 use Rattle.library.specs.Finals.{FinalFor}
-use Rattle.steps.specs.Stepping.{Stepped, stepped}
+use Rattle.steps.specs.Stepping.{stepped}
 use Rattle.server.specs.declared.refusal.CallRefusal.{CallRefusal}
 use Rattle.server.specs.Calls.{step_writes}
-use Rattle.server.specs.Machine.{After, Reply, Call, after, blank, replied}
+use Rattle.server.specs.Machine.{After, blank, replied}
 use Rattle.server.specs.Machine.Call.{receive, step, put, take_out, service, open-door, shut-door, message}
-use Rattle.server.specs.Machine.Reply.{response, granted, took, messaged, refused, barred}
+use Rattle.server.specs.Machine.Reply.{response, granted, took, messaged, refused}
 use Rattle.site.specs.Law.{RefusedUnchanged}
 use Rattle.site.proofs.Cases.{if_shut, if_open, receive-cases, step-cases, put-cases, take_cases, switch-cases}
 

@@ -1,17 +1,15 @@
 -- A catalogue that files at most what is due has no more rows than there are places.
-use Rattle.std.proofs.Common.{◌≡◌, ℕ, zero, suc, ◌+◌, ◌<◌, ◌≤◌, Bool, true, false, cond, not, ◌&&◌, eqb, ltb, ◌≢◌, List, [], ◌∷◌, ◌++◌, length, get_or, take, drop, set, sym, refl, ap, ◌∙◌, subst, ⊎_elim, append_assoc, arith}
-use mathlib.Core.Path.{subst⁻¹}
+use Rattle.std.proofs.Common.{◌≡◌, ℕ, zero, suc, ◌+◌, ◌<◌, ◌≤◌, Bool, true, false, cond, ◌&&◌, eqb, ltb, ◌≢◌, List, [], ◌∷◌, ◌++◌, length, get_or, take, drop, set, sym, refl, ap, ◌∙◌, ⊎_elim, arith}
 use Rattle.std.proofs.lemmas.List.{get_or_past}
-use Rattle.std.proofs.lemmas.Bool.{cases_lt, cases_eq, eq-eqb, ne_eqb, eqb-true}
+use Rattle.std.proofs.lemmas.Bool.{cases_lt, cases_eq, eq-eqb, ne_eqb}
 use Rattle.std.proofs.lemmas.Bool.Decides.{nat_tests}
-use Rattle.robots.specs.Meaning.{Meaning, Sound, count, held_at}
+use Rattle.robots.specs.Meaning.{Meaning, Sound, count}
 use Rattle.stock.specs.declared.catalogue.Filed.{Filed}
 use Rattle.stock.specs.Filing.{no_row}
-use Rattle.stock.specs.Holding.{readable, shown_at}
-use Rattle.site.specs.Catalogues.{CatalogueTrue, filings, due}
+use Rattle.stock.specs.Holding.{readable}
+use Rattle.site.specs.Catalogues.{filings, due}
 use Rattle.site.specs.Inventories.{port_at}
 use Rattle.site.proofs.Ways.{cells, shown_cells}
-use Rattle.site.proofs.Good.{Partial}
 
 abbrev pub one_if : Bool → ℕ
 one_if b = cond b 1 0

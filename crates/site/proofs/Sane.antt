@@ -1,5 +1,5 @@
 -- What is true of a library beside what was heard of it; and what one turn keeps.
-use Rattle.std.proofs.Common.{◌≡◌, ℕ, ◌<◌, ◌≤◌, Bool, true, false, cond, ◌&&◌, List, [], ◌∷◌, ◌++◌, map, Some, None, Option}
+use Rattle.std.proofs.Common.{◌≡◌, ℕ, ◌<◌, ◌≤◌, Bool, true, false, cond, ◌&&◌, List, [], map, Some, None, Option}
 use Rattle.requests.specs.declared.bodies.Body.{Body}
 use Rattle.requests.specs.declared.bodies.Request.{Request}
 use Rattle.responses.specs.declared.Entry.{Entry}
@@ -13,7 +13,6 @@ use Rattle.library.specs.Library.{Job}
 use Rattle.library.specs.Turns.{Turned, Going}
 use Rattle.library.specs.Turns.Going.{stays, ends}
 use Rattle.library.specs.Verdicts.{Ending}
-use Rattle.library.specs.Finals.{FinalFor}
 use Rattle.steps.specs.Stepping.{work_after}
 use Rattle.server.specs.Answers.{final_told}
 use Rattle.server.specs.Hands.{is_enter}

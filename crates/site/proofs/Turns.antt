@@ -1,56 +1,50 @@
 -- What each turn keeps.
-use Rattle.std.proofs.Common.{◌≡◌, ℕ, ◌+◌, ◌-◌, ◌<◌, ◌≤◌, Bool, true, false, cond, not, ◌&&◌, ◌||◌, eqb, ltb, ◌≢◌, List, [], ◌∷◌, ◌++◌, map, length, get_or, set, Some, None, Ok, Err, fold, Option, Result, sym, refl, ap, ◌∙◌, subst, ⊎_elim, arith}
-use mathlib.Core.Path.{subst⁻¹, fun_ext}
+use Rattle.std.proofs.Common.{◌≡◌, ℕ, ◌+◌, ◌-◌, ◌<◌, ◌≤◌, Bool, true, false, cond, eqb, ltb, ◌≢◌, List, [], ◌∷◌, ◌++◌, map, length, set, Some, None, Ok, Err, Option, Result, sym, refl, ap, ◌∙◌, arith}
+use mathlib.Core.Path.{subst⁻¹}
 use Rattle.std.proofs.lemmas.List.Sums.{fold_push}
-use Rattle.std.proofs.lemmas.Bool.{and_right, false≢true, eqb-false, eqb-true, cond-true, lt-ltb, ne_eqb}
+use Rattle.std.proofs.lemmas.Bool.{and_right, eqb-false, eqb-true, cond-true, lt-ltb}
 use Rattle.std.proofs.lemmas.Bool.Decides.{nat_tests}
-use Rattle.labels.specs.Numbers.{number_of, unreadable_number}
-use Rattle.statuses.specs.declared.Status.{Status}
+use Rattle.labels.specs.Numbers.{number_of}
 use Rattle.statuses.specs.declared.Status.TheVariants as status
-use Rattle.statuses.specs.Statuses.{status_number}
 use Rattle.requests.specs.declared.bodies.Body.{Body}
 use Rattle.requests.specs.declared.bodies.Body.TheVariants as body
 use Rattle.requests.specs.declared.bodies.Mark.{Mark}
 use Rattle.requests.specs.declared.bodies.Mark.TheVariants.{Unmarked, Cancelled, Aborted}
 use Rattle.requests.specs.declared.bodies.Request.{Request}
 use Rattle.responses.specs.declared.Entry.{Entry}
-use Rattle.responses.specs.Responses.{Told}
-use Rattle.responses.specs.RoundTrips.{Entered, filled}
+use Rattle.responses.specs.RoundTrips.{Entered}
 use Rattle.robots.specs.declared.kind.Kind.{Kind}
 use Rattle.robots.specs.declared.fault.Fault.{Fault}
 use Rattle.robot_moves.specs.declared.movement.Stopped.{Stopped}
 use Rattle.robot_moves.specs.declared.movement.Stopped.TheVariants.{NoTarget}
-use Rattle.robot_moves.specs.declared.search.Wanted.TheVariants.{FreeCell, FullPort}
+use Rattle.robot_moves.specs.declared.search.Wanted.TheVariants.{FreeCell}
 use Rattle.robots.specs.Meaning.{Meaning, Sound, count, held_at}
 use Rattle.robots.specs.Acts.{left, set_refusal, set_down, with_held}
 use Rattle.robots.specs.Cartridges.{cartridges_of}
 use Rattle.robot_moves.specs.Movement.{Emptying, cleared, hand_emptied}
-use Rattle.robot_moves.specs.Search.{next_free_cell, next_full_port, up_to, passes}
+use Rattle.robot_moves.specs.Search.{next_free_cell, next_full_port, up_to}
 use Rattle.robots.proofs.Acts.{set_keeps, set_tells}
 use Rattle.robot_moves.proofs.Places.{first_passes}
 use Rattle.stock.specs.declared.refusal.Refusal.{Refusal}
-use Rattle.stock.specs.declared.refusal.Refusal.TheVariants.{BadMakeUp}
 use Rattle.stock.specs.Refusals.{status_of, detail_of}
-use Rattle.stock.specs.Holding.{held_in, inventory_of}
+use Rattle.stock.specs.Holding.{held_in}
 use Rattle.stock.specs.Models.{Stocked}
-use Rattle.stock.specs.Moves.{Done, Entered as EnteredOne, entry_for, mounted, dismounted, ejected, entered}
-use Rattle.stock.specs.Starts.{Begun, fit, begun_if, cleared_as, cleared_by, hand_cleared, read_at}
-use Rattle.stock.specs.Starts.{begun as startBegun}
+use Rattle.stock.specs.Moves.{Done, Entered as EnteredOne, entry_for, entered}
+use Rattle.stock.specs.Starts.{fit, begun_if, cleared_as, cleared_by, read_at}
 use Rattle.library.specs.declared.state.State.{State}
 use Rattle.library.specs.Library.{Job}
-use Rattle.library.specs.States.{state_number}
 use Rattle.library.specs.Entering.{entries_more}
 use Rattle.library.specs.Turns.{Turned, Going}
 use Rattle.library.specs.Turns.Going.{stays, ends}
-use Rattle.library.specs.Verdicts.{Ending, Shown, done_with, moved_verdict, refused_by}
-use Rattle.library.specs.Verdicts.Shown.{nothing, listed, inventory}
-use Rattle.steps.specs.Turning.{at_once, begun, continued, end_aborted, end_cancelled, enter_on, enter_taken, entered_turn, gone_on, idled, moved_turn, quiet, shown_marked, start_on, start_on_if, start_taken, start_taken_as, taken}
+use Rattle.library.specs.Verdicts.{Ending, done_with, moved_verdict, refused_by}
+use Rattle.library.specs.Verdicts.Shown.{nothing, listed}
+use Rattle.steps.specs.Turning.{begun, continued, enter_on, enter_taken, entered_turn, gone_on, moved_turn, shown_marked, start_on_if, start_taken, taken}
 use Rattle.server.specs.Answers.{shown_entries}
 use Rattle.server.specs.Hands.{is_enter}
 use Rattle.site.specs.Hearing.{succeeds_in}
-use Rattle.site.specs.Inventories.{Inventory, all, changed, changed_by, entries_in, told, told_more}
-use Rattle.site.specs.Law.{Each, is_start}
-use Rattle.site.proofs.Ways.{Moved, cells, holding, held_is, sound_set, sound_moved, way_sound}
+use Rattle.site.specs.Inventories.{Inventory, all, changed, changed_by, told, told_more}
+use Rattle.site.specs.Law.{Each}
+use Rattle.site.proofs.Ways.{cells, holding, sound_set, sound_moved}
 use Rattle.site.proofs.Carried.{Carried, Treated, carried-mounted, carried-dismounted, carried-ejected, treated-entered, told_moved, counts_moved, unchanged}
 use Rattle.site.proofs.Carried.Carried.{still, carried}
 use Rattle.site.proofs.Carried.Treated.{kept, treated}

@@ -1,17 +1,15 @@
 -- One movement: the cartridge stays where it was, or goes from a to b; and what that keeps.
-use Rattle.std.proofs.Common.{◌≡◌, ℕ, ◌+◌, ◌-◌, ◌%◌, ◌<◌, ◌≤◌, Bool, true, false, cond, not, ◌&&◌, eqb, ltb, ◌≢◌, List, [], ◌∷◌, ◌++◌, length, get_or, set, Some, None, Ok, Err, Option, sym, refl, ap, ◌∙◌, subst, ⊎_elim, arith, length-set}
-use mathlib.Core.Path.{subst⁻¹, fun_ext}
+use Rattle.std.proofs.Common.{◌≡◌, ℕ, ◌<◌, ◌≤◌, cond, ◌&&◌, eqb, ltb, ◌≢◌, List, length, get_or, set, Some, None, Ok, Err, Option, sym, refl, ap, ◌∙◌, ⊎_elim, arith, length-set}
+use mathlib.Core.Path.{subst⁻¹}
 use Rattle.std.proofs.lemmas.List.{get_or_past, get_or-set_same, get_or-set_other}
 use Rattle.std.proofs.lemmas.Bool.{cases_eq, cases_lt, eq-eqb, ne_eqb, lt-ltb, le-ltb, cond-true, cond-false}
-use Rattle.std.proofs.lemmas.Bool.Decides.{nat_tests}
 use Rattle.labels.specs.Numbers.{unreadable_number}
 use Rattle.robots.specs.declared.fault.Fault.{Fault}
-use Rattle.robots.specs.declared.kind.Kind.{Kind}
 use Rattle.robots.specs.declared.kind.Kind.TheVariants.{Cell}
 use Rattle.robot_moves.specs.declared.movement.Target.{Target}
 use Rattle.robot_moves.specs.declared.movement.Stopped.{Stopped}
 use Rattle.robot_moves.specs.declared.movement.Stopped.TheVariants.{NoTarget, Refused}
-use Rattle.robots.specs.Meaning.{Meaning, Sound, count, held_at, serving}
+use Rattle.robots.specs.Meaning.{Meaning, Sound, count, held_at}
 use Rattle.robots.specs.Acts.{left, lift_refusal, lifted, set_refusal, set_down, with_held}
 use Rattle.robot_moves.specs.Movement.{Movement, movement, lifted_for, brought_to, set_at, sought}
 use Rattle.robot_moves.specs.Search.{is_port, of_kind}

@@ -1,23 +1,22 @@
 -- What is written reads back as it was told.
-use Rattle.std.proofs.Common.{◌≡◌, ℕ, zero, suc, ◌+◌, ◌<◌, ◌≤◌, Bool, true, false, cond, ltb, List, [], ◌∷◌, ◌++◌, map, length, get_or, take, drop, Some, None, Ok, Err, Option, Result, sym, refl, ap, ◌∙◌, subst, ⊎_elim, arith}
+use Rattle.std.proofs.Common.{◌≡◌, ℕ, zero, suc, ◌+◌, ◌<◌, ◌≤◌, Bool, true, false, cond, ltb, List, map, length, get_or, Some, None, Option, sym, refl, ap, ◌∙◌, ⊎_elim, arith}
 use mathlib.Core.Path.{subst⁻¹, fun_ext}
 use Rattle.std.specs.List.{range_with_len}
 use Rattle.std.proofs.lemmas.List.{get_or_past}
-use Rattle.std.proofs.lemmas.Bool.{cases_lt, le-ltb, cond-false}
+use Rattle.std.proofs.lemmas.Bool.{cases_lt, le-ltb}
 use Rattle.labels.specs.Numbers.{unreadable_number}
 use Rattle.responses.specs.declared.writing.Unwritable.{Unwritable}
 use Rattle.responses.specs.Responses.{Told, count_of}
-use Rattle.responses.specs.Writing.{answer_by, bytes_of, left, left_by, unwritable}
-use Rattle.responses.specs.Reading.{response_in}
+use Rattle.responses.specs.Writing.{answer_by, left, left_by, unwritable}
 use Rattle.responses.specs.RoundTrips.{Sound as SoundTold, Entered, Placed, filled, padded}
 use Rattle.responses.proofs.Back.{reads_back}
 use Rattle.responses.proofs.Padding.{padded_whole}
 use Rattle.robots.specs.Meaning.{Meaning, Sound, count, held_at}
 use Rattle.stock.specs.Holding.{inventory_of, shown_at}
 use Rattle.library.specs.Finals.{FinalFor}
-use Rattle.library.specs.Verdicts.{Shown, Ending}
+use Rattle.library.specs.Verdicts.{Shown}
 use Rattle.library.specs.Verdicts.Shown.{nothing, listed, inventory}
-use Rattle.server.specs.Answers.{final_told, length_by, length_in, shown_entries, shown_inventory}
+use Rattle.server.specs.Answers.{final_told, length_by, length_in}
 use Rattle.server.specs.Calls.{wrote}
 use Rattle.server.specs.Machine.{replied}
 use Rattle.library.specs.Library.{Library}

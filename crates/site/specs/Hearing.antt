@@ -1,7 +1,6 @@
 -- What an outsider hears: the calls, their replies, and the responses as they read from the bytes written.
 use Rattle.std.specs.Prelude.{ℕ, Bool, true, false, cond, ◌&&◌, List, [], ◌∷◌, ◌++◌, Some, None, fold, Option, ◌==◌}
 use Rattle.statuses.specs.Statuses.{status_number}
-use Rattle.responses.specs.declared.Entry.{Entry}
 use Rattle.responses.specs.declared.ResponseKind.{ResponseKind}
 use Rattle.responses.specs.declared.ResponseKind.TheVariants.{Acknowledge, Final}
 use Rattle.responses.specs.Responses.{Told}

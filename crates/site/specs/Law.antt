@@ -1,5 +1,5 @@
 -- What holds after each call of every run.
-use Rattle.std.specs.Prelude.{◌≡◌, ℕ, ◌+◌, ◌<◌, ◌≤◌, Bool, true, false, ◌||◌, List, [], ◌∷◌, ◌++◌, length, take, Some, None, sum_by, Option, nat_eq}
+use Rattle.std.specs.Prelude.{◌≡◌, ℕ, ◌+◌, ◌<◌, ◌≤◌, Bool, true, false, ◌||◌, List, [], ◌∷◌, ◌++◌, length, take, Some, sum_by, nat_eq}
 use Rattle.ring.specs.Order.{any_of}
 use Rattle.requests.specs.declared.bodies.Body.{Body}
 use Rattle.requests.specs.declared.bodies.Body.TheVariants as body

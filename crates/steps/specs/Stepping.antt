@@ -1,5 +1,5 @@
 -- What a step makes of a library.
-use Rattle.std.specs.Prelude.{ℕ, Bool, true, false, cond, List, [], ◌∷◌, is_some, Some, None, Option}
+use Rattle.std.specs.Prelude.{ℕ, Bool, true, false, List, [], ◌∷◌, is_some, Some, None, Option}
 use Rattle.requests.specs.declared.bodies.Request.{Request}
 use Rattle.requests.specs.declared.bodies.Body.{Body}
 use Rattle.requests.specs.declared.bodies.Body.TheVariants as body
@@ -12,7 +12,6 @@ use Rattle.library.specs.declared.message.Notice.TheVariants.{Remove}
 use Rattle.library.specs.Library.{Job, Library}
 use Rattle.library.specs.Drives.{drive_told, named}
 use Rattle.library.specs.Messages.{posted, dropped}
-use Rattle.library.specs.Verdicts.{Ending}
 use Rattle.library.specs.Turns.{Turned, Going}
 use Rattle.library.specs.Turns.Going.{stays, ends}
 use Rattle.library.specs.Finals.{FinalFor}

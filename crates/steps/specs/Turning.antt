@@ -1,14 +1,13 @@
 -- What one step makes of a request: its taking step, a later one, or the end of a marked one.
-use Rattle.std.specs.Prelude.{ℕ, ◌+◌, Bool, true, false, cond, List, [], ◌∷◌, Some, None, Ok, Err, Option, Result, nat_lt}
+use Rattle.std.specs.Prelude.{ℕ, ◌+◌, Bool, true, false, List, [], Some, None, Ok, Err, Option, Result, nat_lt}
 use Rattle.labels.specs.Numbers.{number_of}
-use Rattle.statuses.specs.declared.Status.{Status}
 use Rattle.statuses.specs.declared.Status.TheVariants as status
 use Rattle.requests.specs.declared.bodies.Body.{Body}
 use Rattle.requests.specs.declared.bodies.Body.TheVariants as body
 use Rattle.requests.specs.declared.bodies.Mark.{Mark}
 use Rattle.requests.specs.declared.bodies.Mark.TheVariants.{Unmarked, Cancelled, Aborted}
 use Rattle.responses.specs.declared.Entry.{Entry}
-use Rattle.robots.specs.Meaning.{Meaning, count}
+use Rattle.robots.specs.Meaning.{count}
 use Rattle.robot_moves.specs.Search.{next_full_port}
 use Rattle.stock.specs.declared.refusal.Refusal.{Refusal}
 use Rattle.stock.specs.Refusals.{status_of, detail_of}
@@ -18,11 +17,10 @@ use Rattle.stock.specs.Starts.{Begun, read_at}
 use Rattle.stock.specs.Starts.{begun as startBegun}
 use Rattle.library.specs.declared.state.State.{State}
 use Rattle.library.specs.declared.state.State.TheVariants as state
-use Rattle.library.specs.declared.message.Notice.{Notice}
 use Rattle.library.specs.declared.message.Notice.TheVariants as notice
 use Rattle.library.specs.States.{state_number}
 use Rattle.library.specs.Entering.{entries_more}
-use Rattle.library.specs.Verdicts.{Ending, Shown, done_with, refused_by, moved_verdict}
+use Rattle.library.specs.Verdicts.{Shown, done_with, refused_by, moved_verdict}
 use Rattle.library.specs.Verdicts.Shown.{nothing, listed, inventory}
 use Rattle.library.specs.Turns.{Turned, Course, Going}
 use Rattle.library.specs.Turns.Going.{stays, ends}

@@ -1,5 +1,5 @@
 -- A cartridge whose label can be read.
-use Rattle.std.proofs.Common.{◌≡◌, ℕ, eqb, refl}
+use Rattle.std.proofs.Common.{◌≡◌, ℕ, refl}
 use Rattle.labels.specs.Numbers.{unreadable_number}
 use Rattle.std.proofs.lemmas.Bool.{ne_eqb}
 use Rattle.stock.specs.Filing.{volume_of}

@@ -1,5 +1,5 @@
 -- What a start does to the robot and the catalogue.
-use Rattle.std.specs.Prelude.{ℕ, ◌-◌, Bool, true, false, cond, not, ◌&&◌, List, [], Ok, Err, Result, ◌==◌, nat_le}
+use Rattle.std.specs.Prelude.{ℕ, ◌-◌, Bool, true, false, not, ◌&&◌, List, [], Ok, Err, Result, ◌==◌, nat_le}
 use Rattle.robots.specs.Meaning.{Meaning, count}
 use Rattle.robot_moves.specs.declared.movement.Stopped.{Stopped}
 use Rattle.robot_moves.specs.declared.movement.Target.TheVariants.{NextCell}

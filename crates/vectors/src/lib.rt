@@ -7,6 +7,8 @@ mod acts;
 #[cfg(test)]
 mod calls;
 #[cfg(test)]
+mod each_status;
+#[cfg(test)]
 mod label_numbers;
 #[cfg(test)]
 mod packets;
@@ -18,5 +20,3 @@ mod script;
 mod sessions;
 #[cfg(test)]
 mod sites;
-#[cfg(test)]
-mod statuses;

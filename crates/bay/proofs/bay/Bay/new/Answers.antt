@@ -1,4 +1,4 @@
-use Rattle.std.proofs.Common.{◌≡◌, ◌≤◌, length, vec_items, vec_len, sym, ap, ◌∙◌, arith}
+use Rattle.std.proofs.Common.{◌≡◌, ◌≤◌, length, vec_items, vec_len, ap, arith}
 use Rattle.robots.proofs.Makings.{passed, numbers_within}
 use Rattle.bay.specs.Numbered.{Numbered}
 use Rattle.bay.proofs.bay.Bay.new.Goals as goal

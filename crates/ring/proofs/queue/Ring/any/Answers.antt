@@ -1,4 +1,4 @@
-use Rattle.std.proofs.Common.{◌≡◌, ◌<◌, ◌≤◌, length, sym, refl, ◌∙◌, arith}
+use Rattle.std.proofs.Common.{◌<◌, ◌≤◌, length, sym, refl, ◌∙◌, arith}
 use Rattle.ring.specs.Queue.{records}
 use Rattle.ring.proofs.Loops.{any_of_nth, any_of_none, nth_there, or_left, or_right}
 use Rattle.ring.proofs.queue.Ring.any.Goals.{in-Some+else-is_met, in_default}

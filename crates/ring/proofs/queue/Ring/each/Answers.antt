@@ -1,4 +1,4 @@
-use Rattle.std.proofs.Common.{◌≡◌, ◌+◌, ◌<◌, ◌≤◌, length, sym, refl, ap, ◌∙◌, subst, arith}
+use Rattle.std.proofs.Common.{◌<◌, ◌≤◌, length, sym, refl, ap, ◌∙◌, subst, arith}
 use Rattle.ring.specs.Queue.{Kept, Sound, records}
 use Rattle.ring.proofs.Slots.{kept_then}
 use Rattle.ring.proofs.Loops.{partly_all, length_partly, nth_there, each_more}

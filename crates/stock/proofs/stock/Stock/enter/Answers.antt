@@ -1,4 +1,4 @@
-use Rattle.std.proofs.Common.{◌≡◌, sym, ap, ◌∙◌}
+use Rattle.std.proofs.Common.{sym, ap, ◌∙◌}
 use Rattle.stock.specs.Models.{stock_of}
 use Rattle.stock.specs.Moves.{Entered}
 use Rattle.stock.proofs.Enters.{readable_entered}

@@ -1,4 +1,4 @@
-use Rattle.std.proofs.Common.{◌≡◌, ◌<◌, length, ◌∙◌, arith, length-set}
+use Rattle.std.proofs.Common.{◌<◌, length, ◌∙◌, arith, length-set}
 use Rattle.stock.proofs.Inventories.{shown_more, shown_all}
 use Rattle.stock.proofs.stock.start.inventory.Goals as goal
 
