@@ -28,7 +28,7 @@ use Rattle.library.specs.Messages.{posted, dropped}
 use Rattle.library.specs.Verdicts.{Ending, done_with, moved_verdict, refused_by, told_state}
 use Rattle.library.specs.Verdicts.Shown.{nothing}
 use Rattle.receipt.specs.declared.refusal.NotReceived.{NotReceived}
-use Rattle.receipt.specs.declared.refusal.NotReceived.TheVariants as not
+use Rattle.receipt.specs.declared.refusal.NotReceived.TheVariants as unreceived
 use Rattle.receipt.specs.declared.receive.Answer.{Answer}
 use Rattle.receipt.specs.declared.receive.Answer.TheVariants as answer
 use Rattle.receipt.specs.Checking.{detail_of, refusal_of, status_of}
@@ -93,7 +93,7 @@ with_queued q l = record {
 
 abbrev pub queued_if : Bool → Request → Library → Received
 queued_if true q l = record { said = acknowledged q; library = with_queued q l }
-queued_if false q l = not_received q not.LibraryBusy l
+queued_if false q l = not_received q unreceived.LibraryBusy l
 
 -- A request is queued and acknowledged, unless the queue is full.
 abbrev pub queued : Request → Library → Received

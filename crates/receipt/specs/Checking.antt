@@ -17,27 +17,27 @@ use Rattle.library.specs.Drives.{drive_at, is_online}
 use Rattle.library.specs.Library.{Job, Library}
 use Rattle.library.specs.Marks.{cancels}
 use Rattle.receipt.specs.declared.refusal.NotReceived.{NotReceived}
-use Rattle.receipt.specs.declared.refusal.NotReceived.TheVariants as not
+use Rattle.receipt.specs.declared.refusal.NotReceived.TheVariants as unreceived
 
 -- The status that tells why a request is refused at its receipt.
 abbrev pub status_of : NotReceived → Status
-status_of (not.NotServed s) = status.NotServed
-status_of not.IdlePending = status.IdlePending
-status_of (not.NoDrive p) = status.NoDrive
-status_of (not.NotOnline p) = status.NotOnline
-status_of not.AlreadySo = status.AlreadySo
-status_of not.NothingToCancel = status.NothingToCancel
-status_of not.LibraryBusy = status.LibraryBusy
+status_of (unreceived.NotServed s) = status.NotServed
+status_of unreceived.IdlePending = status.IdlePending
+status_of (unreceived.NoDrive p) = status.NoDrive
+status_of (unreceived.NotOnline p) = status.NotOnline
+status_of unreceived.AlreadySo = status.AlreadySo
+status_of unreceived.NothingToCancel = status.NothingToCancel
+status_of unreceived.LibraryBusy = status.LibraryBusy
 
 -- The state or the place that it is about.
 abbrev pub detail_of : NotReceived → Option ℕ
-detail_of (not.NotServed s) = Some (state_number s)
-detail_of not.IdlePending = None
-detail_of (not.NoDrive p) = Some (in_byte p)
-detail_of (not.NotOnline p) = Some (in_byte p)
-detail_of not.AlreadySo = None
-detail_of not.NothingToCancel = None
-detail_of not.LibraryBusy = None
+detail_of (unreceived.NotServed s) = Some (state_number s)
+detail_of unreceived.IdlePending = None
+detail_of (unreceived.NoDrive p) = Some (in_byte p)
+detail_of (unreceived.NotOnline p) = Some (in_byte p)
+detail_of unreceived.AlreadySo = None
+detail_of unreceived.NothingToCancel = None
+detail_of unreceived.LibraryBusy = None
 
 -- Idle pending serves cancel, query, vary and idle.
 abbrev pub served_pending : Body → Bool
@@ -89,21 +89,21 @@ served state.Recovery b = served_recovery b
 -- Idle: unforced while it is pending, or in idle.
 abbrev pub idle_refusal : State → Bool → Option NotReceived
 idle_refusal state.Run force = None
-idle_refusal state.IdlePending force = cond force None (Some not.IdlePending)
-idle_refusal state.Idle force = Some not.AlreadySo
+idle_refusal state.IdlePending force = cond force None (Some unreceived.IdlePending)
+idle_refusal state.Idle force = Some unreceived.AlreadySo
 idle_refusal state.Recovery force = None
 
 -- Start in run.
 abbrev pub start_refusal : State → Option NotReceived
-start_refusal state.Run = Some not.AlreadySo
+start_refusal state.Run = Some unreceived.AlreadySo
 start_refusal state.IdlePending = None
 start_refusal state.Idle = None
 start_refusal state.Recovery = None
 
 -- Mount and dismount: no drive there, then a drive that is not online.
 abbrev pub drive_refusal : Bool → Bool → ℕ → Option NotReceived
-drive_refusal false online d = Some (not.NoDrive d)
-drive_refusal true false d = Some (not.NotOnline d)
+drive_refusal false online d = Some (unreceived.NoDrive d)
+drive_refusal true false d = Some (unreceived.NotOnline d)
 drive_refusal true true d = None
 
 -- Vary: no drive there, then a drive that is so or pending so.
@@ -112,8 +112,8 @@ is_so setting.Online online = online
 is_so setting.Offline online = opposite online
 
 abbrev pub vary_refusal : Bool → Bool → ℕ → Option NotReceived
-vary_refusal false so d = Some (not.NoDrive d)
-vary_refusal true true d = Some not.AlreadySo
+vary_refusal false so d = Some (unreceived.NoDrive d)
+vary_refusal true true d = Some unreceived.AlreadySo
 vary_refusal true false d = None
 
 -- Cancel: nothing to mark.
@@ -126,7 +126,7 @@ can_cancel l t = work_cancels l.work t || any_of (λ q. cancels t q) l.waiting
 
 abbrev pub cancel_refusal : Bool → Option NotReceived
 cancel_refusal true = None
-cancel_refusal false = Some not.NothingToCancel
+cancel_refusal false = Some unreceived.NothingToCancel
 
 -- Whether there is a drive at d, and whether it is online.
 abbrev pub drive_there : Library → ℕ → Bool
@@ -148,7 +148,7 @@ body_refusal body.Start l = start_refusal l.state
 body_refusal (body.Vary drive set) l = vary_refusal (drive_there l drive) (is_so set (drive_online l drive)) drive
 
 abbrev pub refusal_if : Bool → Body → Library → Option NotReceived
-refusal_if false b l = Some (not.NotServed l.state)
+refusal_if false b l = Some (unreceived.NotServed l.state)
 refusal_if true b l = body_refusal b l
 
 -- Why a request is refused, a full queue and a query's label aside.

@@ -12,7 +12,7 @@ use Rattle.library.specs.Library.{Library}
 use Rattle.receipt.specs.declared.refusal.NotReceived.{NotReceived}
 use Rattle.receipt.specs.Accepting.{Received, received, received_if, accepted, not_received, queued, queued_if, with_queued}
 use Rattle.receipt.specs.Accepting.Said.{acknowledged}
-use Rattle.receipt.specs.declared.refusal.NotReceived.TheVariants as not
+use Rattle.receipt.specs.declared.refusal.NotReceived.TheVariants as unreceived
 use Rattle.receipt.specs.Checking.{refusal_of}
 use Rattle.steps.specs.Stepping.{stepped}
 use Rattle.server.specs.declared.refusal.CallRefusal.{CallRefusal}
@@ -83,11 +83,11 @@ pub received_cases : (P : Received → Type 0) (q : Request) (l : Library) → (
 received_cases P q l deny go = received_if_holds P q l (refusal_of q.body l) refl deny go
 
 -- A request that is to be queued: the queue is full, or it is acknowledged.
-queued_if_holds : (P : Received → Type 0) (q : Request) (l : Library) (b : Bool) → P (not_received q not.LibraryBusy l) → P (record { said = acknowledged q; library = with_queued q l }) → P (queued_if b q l)
+queued_if_holds : (P : Received → Type 0) (q : Request) (l : Library) (b : Bool) → P (not_received q unreceived.LibraryBusy l) → P (record { said = acknowledged q; library = with_queued q l }) → P (queued_if b q l)
 queued_if_holds P q l true deny go = go
 queued_if_holds P q l false deny go = deny
 
-pub queued_cases : (P : Received → Type 0) (q : Request) (l : Library) → P (not_received q not.LibraryBusy l) → P (record { said = acknowledged q; library = with_queued q l }) → P (queued q l)
+pub queued_cases : (P : Received → Type 0) (q : Request) (l : Library) → P (not_received q unreceived.LibraryBusy l) → P (record { said = acknowledged q; library = with_queued q l }) → P (queued q l)
 queued_cases P q l deny go = queued_if_holds P q l (ltb (length l.waiting) l.slots) deny go
 
 -- A library with another robot.

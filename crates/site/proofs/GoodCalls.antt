@@ -17,7 +17,7 @@ use Rattle.library.specs.Library.{Job, Library, unanswered, working}
 use Rattle.library.specs.Marks.{aborted, aborted_mark, at_work, cancelled, cancelled_if, cancels, is_unmarked, names_drive}
 use Rattle.library.specs.Turns.{Turned, Going}
 use Rattle.library.specs.Turns.Going.{stays, ends}
-use Rattle.receipt.specs.declared.refusal.NotReceived.TheVariants as not
+use Rattle.receipt.specs.declared.refusal.NotReceived.TheVariants as unreceived
 use Rattle.receipt.specs.Accepting.{Received, accepted, queued, queued_state, received, with_cancelled, with_forced, with_queued}
 use Rattle.receipt.specs.Checking.{body_refusal, drive_online, drive_refusal, drive_there, idle_refusal, refusal_if, served, start_refusal}
 use Rattle.steps.specs.Stepping.{library_after, stepped_by, work_after}
@@ -195,7 +195,7 @@ unnamed e = absurd (false≢true e)
 
 -- A start is queued in idle alone, an idle in run alone, and what moves cartridges in run alone.
 start_queueable : (l : Library) (n : ℕ) (k : Mark) (st : State) → l.state ≡ st → served st body.Start ≡ true → start_refusal st ≡ None → Queueable l (record { number = n; mark = k; body = body.Start })
-start_queueable l n k state.Run e s r = some_not_none not.AlreadySo r
+start_queueable l n k state.Run e s r = some_not_none unreceived.AlreadySo r
 start_queueable l n k state.IdlePending e s r = unnamed s
 start_queueable l n k state.Recovery e s r = unnamed s
 start_queueable l n k state.Idle e s r = record {
@@ -206,8 +206,8 @@ start_queueable l n k state.Idle e s r = record {
 }
 
 idle_queueable : (l : Library) (n : ℕ) (k : Mark) (st : State) → l.state ≡ st → served st (body.Idle false) ≡ true → idle_refusal st false ≡ None → Queueable l (record { number = n; mark = k; body = body.Idle false })
-idle_queueable l n k state.Idle e s r = some_not_none not.AlreadySo r
-idle_queueable l n k state.IdlePending e s r = some_not_none not.IdlePending r
+idle_queueable l n k state.Idle e s r = some_not_none unreceived.AlreadySo r
+idle_queueable l n k state.IdlePending e s r = some_not_none unreceived.IdlePending r
 idle_queueable l n k state.Recovery e s r = unnamed s
 idle_queueable l n k state.Run e s r = record {
   starts = let a = ap in_recovery e in omega (arith, a, none_of k);
@@ -250,7 +250,7 @@ in_run state.Recovery (body.Vary drive setting) m s = unnamed m
 -- A drive that is named is there.
 drive_there_holds : (x y : Bool) (d : ℕ) → drive_refusal x y d ≡ None → x ≡ true
 drive_there_holds true y d e = refl
-drive_there_holds false y d e = some_not_none (not.NoDrive d) e
+drive_there_holds false y d e = some_not_none (unreceived.NoDrive d) e
 
 module _ (l : Library) (n : ℕ) (k : Mark) (shut : l.door ≡ false) (good : Good l) where
   abbrev asked : Body → Request

@@ -1,18 +1,10 @@
-ghost use Rattle.std.specs.Prelude.{◌≡◌, ◌<◌};
+ghost use Rattle.std.specs.Prelude.{◌≡◌};
 ghost use Rattle.robot_moves.specs.Slips.{found_in_hand, slip_from};
 
-/// Held for a cartridge in the hand, until it is set down or put back.
+/// Held for a cartridge in the hand, until it is set down or put back. It is not `Drop`, so that no
+/// slip is let go unspent.
 pub struct Slip {
     from: u16,
-}
-
-/// No slip is let go unspent: what this requires never holds.
-impl Drop for Slip {
-    fn drop(self)
-        requires { 1 < 0 }
-    {
-        let Slip { from: _ } = self;
-    }
 }
 
 impl Slip {
@@ -32,17 +24,9 @@ impl Slip {
 }
 
 /// Held for a cartridge that was in the hand before, until it is set down, or stays there since no cell is free.
+/// Nor is this token let go.
 pub struct Found {
     cartridge: u32,
-}
-
-/// Nor is this token.
-impl Drop for Found {
-    fn drop(self)
-        requires { 1 < 0 }
-    {
-        let Found { cartridge: _ } = self;
-    }
 }
 
 impl Found {
