@@ -9,7 +9,6 @@ use robots::place::Place;
 use robots::robot::Robot;
 use server::refusal::CallRefusal;
 use server::serving::Serving;
-use std::process::Abort;
 use std::test::*;
 
 /// The step ends a start: six bytes, and an inventory in which cells and drives are empty.
