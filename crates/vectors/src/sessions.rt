@@ -1,6 +1,6 @@
 //! Two worked sessions, call by call: the bench session, and one with every other command.
 
-use crate::script::{received, stepped};
+use crate::script::{ensure, received, stepped};
 use bay::bay::Bay;
 use labels::Label;
 use library::slots::{BLANK_MESSAGE, BLANK_REQUEST};
@@ -12,12 +12,11 @@ use server::serving::Serving;
 use std::test::*;
 
 /// The step ends a start: six bytes, and an inventory in which cells and drives are empty.
-fn step_with_inventory(rt: &impl Abort, library: &mut Serving<Bay>) -> Result<(), Fail> {
+fn step_with_inventory(library: &mut Serving<Bay>) -> Result<(), Fail> {
     let mut buffer = [7; 2048];
     let length = library.step(&mut buffer)?;
-    assert!(rt; length == 38 && buffer[0..6] == [0x8F, 0x00, 0x01, 0x09, 0x03, 0x00]);
-    assert!(rt; buffer[6..38] == [0; 32]);
-    Ok(())
+    ensure(length == 38 && buffer[0..6] == [0x8F, 0x00, 0x01, 0x09, 0x03, 0x00])?;
+    ensure(buffer[6..38] == [0; 32])
 }
 
 /// Whether the call is refused because the number is in use.
@@ -29,7 +28,7 @@ fn number_in_use(library: &mut Serving<Bay>, packet: &[u8]) -> Result<bool, Fail
     }
 }
 
-fn start_enter_and_mount(rt: &impl Abort, library: &mut Serving<Bay>) -> Result<(), Fail> {
+fn start_enter_and_mount(library: &mut Serving<Bay>) -> Result<(), Fail> {
     received(
         library,
         &[0x03, 0x00, 0x01, 0x09],
@@ -41,7 +40,7 @@ fn start_enter_and_mount(rt: &impl Abort, library: &mut Serving<Bay>) -> Result<
     stepped(library, &[])?;
     stepped(library, &[])?;
     stepped(library, &[])?;
-    step_with_inventory(rt, library)?;
+    step_with_inventory(library)?;
     received(
         library,
         &[0x03, 0x00, 0x02, 0x05],
@@ -72,7 +71,7 @@ fn start_enter_and_mount(rt: &impl Abort, library: &mut Serving<Bay>) -> Result<
     )
 }
 
-fn query_vary_and_dismount(rt: &impl Abort, library: &mut Serving<Bay>) -> Result<(), Fail> {
+fn query_vary_and_dismount(library: &mut Serving<Bay>) -> Result<(), Fail> {
     received(
         library,
         &[0x0B, 0x00, 0x04, 0x08, 0x41, 0x42, 0x43, 0x31, 0x32, 0x33],
@@ -106,7 +105,7 @@ fn query_vary_and_dismount(rt: &impl Abort, library: &mut Serving<Bay>) -> Resul
         ],
         &[0x3F, 0x00, 0x08, 0x07, 0x03, 0x0A, 0x02, 0x02],
     )?;
-    assert!(rt; number_in_use(library, &[0x03, 0x00, 0x06, 0x05])?);
+    ensure(number_in_use(library, &[0x03, 0x00, 0x06, 0x05])?)?;
     stepped(library, &[0x3F, 0x00, 0x06, 0x03, 0x03, 0x16, 0x02, 0x02])?;
     received(
         library,
@@ -184,8 +183,8 @@ fn worked_sessions(rt: HostRuntime) -> Result<(), Fail> {
     let label = Label::new(*b"ABC123")?;
     assert!(rt; label.number() == 623_698_780);
     library.put(0, label.number())?;
-    start_enter_and_mount(&rt, &mut library)?;
-    query_vary_and_dismount(&rt, &mut library)?;
+    start_enter_and_mount(&mut library)?;
+    query_vary_and_dismount(&mut library)?;
     eject_cancel_and_idle(&mut library)?;
     assert!(rt; library.take(0)? == 623_698_780);
     assert!(rt; library.take(0) == Err(CallRefusal::PlaceEmpty));
