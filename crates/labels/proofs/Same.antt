@@ -8,7 +8,8 @@ use Rattle.labels.specs.declared.Label.{Label}
 use Rattle.labels.specs.declared.WrongCharacter.{WrongCharacter}
 use Rattle.labels.specs.Characters.{first_wrong, all_right}
 use Rattle.labels.specs.Numbers.{label_of, highest_number}
-use Rattle.labels.specs.Labels.{labelled_by, labelled, is_label_number, numbered}
+use Rattle.std.specs.Result.{result_ok}
+use Rattle.labels.specs.Labels.{labelled_by, labelled, label_or, is_label_number, numbered}
 use Rattle.labels.proofs.Wrongs.{some_none, none_wrong}
 
 -- Two labels with the same characters are the same.
@@ -59,3 +60,8 @@ wrong_by cs w (Some i) e h = let p : w ≡ record { index = i } = cc in ap (λ (
 -- The index told is that of the first wrong character.
 pub wrong_of : (cs : List ℕ) (w : WrongCharacter) → Err w ≡ labelled cs → Some w.index ≡ first_wrong 0 cs
 wrong_of cs w h = wrong_by cs w (first_wrong 0 cs) refl h
+
+-- What a number is read as tells its label, if it has one.
+pub label_told : (n : ℕ) (o : Option Label) → result_ok (label_or n o) ≡ o
+label_told n None = refl
+label_told n (Some l) = refl

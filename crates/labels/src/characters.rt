@@ -1,6 +1,6 @@
 //! Which characters make a label.
 
-ghost use Rattle.std.specs.Prelude.{◌≡◌, ◌≤◌, length};
+ghost use Rattle.std.specs.Prelude.{◌≡◌, ◌≤◌, length, bytes_eq, Decides};
 ghost use Rattle.labels.specs.Characters.{first_wrong, right};
 ghost use Rattle.labels.specs.Labels.{labelled};
 
@@ -35,6 +35,14 @@ impl Label {
             Some(index) => Err(WrongCharacter { index }),
             None => Ok(Label { chars }),
         }
+    }
+
+    /// Whether both are one and the same.
+    pub fn is(&self, other: &Label) -> bool
+        ensures value { result ≡ bytes_eq self.now.chars other.now.chars }
+        ensures decides { Decides result (self.now ≡ other.now) }
+    {
+        self == other
     }
 
     /// The characters.

@@ -20,7 +20,7 @@ pub fn six_for(number: u32) -> [u8; 6]
     ensures is { result ≡ six_for number }
     ensures back { is_cartridge_number number ≡ true → number_of_six result ≡ Some number }
 {
-    characters_of(Label::of_number(number))
+    characters_of(Label::try_from(number).ok())
 }
 
 /// The cartridge number that six bytes stand for, if they stand for a cartridge.
