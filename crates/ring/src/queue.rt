@@ -1,4 +1,4 @@
-ghost use Rattle.std.specs.Prelude.{◌≡◌, Bool};
+ghost use Rattle.std.specs.Prelude.{◌≤◌, length};
 
 mod calls;
 mod every;
@@ -13,20 +13,7 @@ pub struct Ring<'a, T> {
     capacity: usize,
     head: usize,
     count: usize,
-}
-
-/// A condition on a record.
-pub trait Condition<T> {
-    ghost met: { Self → T → Bool };
-
-    fn is_met(&self, x: T) -> bool
-        ensures { result ≡ met self.now x };
-}
-
-/// A change made to a record.
-pub trait Change<T> {
-    ghost turns: { Self → T → T };
-
-    fn change(&self, x: T) -> T
-        ensures { result ≡ turns self.now x };
+    ghost lent: { capacity ≤ length slots.now },
+    ghost headed: { head ≤ capacity },
+    ghost counted: { count ≤ capacity },
 }
