@@ -29,7 +29,7 @@ fn tell(outline: Outline) -> Checked
         Err(cause) => (cause.status(), cause.detail()),
     };
     Checked {
-        status: status.code(),
+        status: u8::from(status),
         has_detail: detail.is_some(),
         detail: detail.unwrap_or(0),
         has_number: outline.number.is_some(),

@@ -21,11 +21,11 @@ fn tell(res: Result<usize, Unwritable>) -> Written
 {
     match res {
         Ok(length) => Written {
-            status: Status::Success.code(),
+            status: u8::from(Status::Success),
             length,
         },
         Err(cause) => Written {
-            status: cause.status().code(),
+            status: u8::from(cause.status()),
             length: 0,
         },
     }

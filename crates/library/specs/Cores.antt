@@ -1,6 +1,6 @@
 -- The library that a core stands for.
-use Rattle.std.specs.Prelude.{◌≡◌, false, length, Some, None, Option}
-use Rattle.ring.specs.Queue.{Sound, records}
+use Rattle.std.specs.Prelude.{false, Some, None, Option}
+use Rattle.ring.specs.Queue.{records}
 use Rattle.robots.specs.Meaning.{Meaning}
 use Rattle.stock.specs.Models.{stock_of}
 use Rattle.library.specs.declared.cores.Work.{Work}
@@ -8,12 +8,8 @@ use Rattle.library.specs.declared.cores.Core.{Core}
 use Rattle.library.specs.Entering.{entries_in}
 use Rattle.library.specs.Library.{Job, Library}
 
--- What holds of it at every moment: its queues are sound, and there is a state for each of 256 drives.
-abbrev pub Live : {R : Type 0} → Core R → Type 0
-Live c = Sound c.waiting × Sound c.messages × (length c.drives ≡ 256)
-
 abbrev pub job_of : Work → Job
-job_of w = record { request = w.request; next = w.next; entries = entries_in w.entries }
+job_of w = record { request = w.request; next = w.progress.next; entries = entries_in w.progress.entries }
 
 abbrev pub work_of : Option Work → Option Job
 work_of None = None

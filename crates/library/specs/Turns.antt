@@ -27,7 +27,7 @@ pub record Turned : Type 0 where
   pub course : Course
 
 abbrev pub going_of : Goes → Going
-going_of (Stays p es) = stays p (entries_in es)
+going_of (Stays p) = stays p.next (entries_in p.entries)
 going_of (Ends v) = ends (verdict_of v)
 
 abbrev pub course_of : Turn → Course

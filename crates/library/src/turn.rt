@@ -3,17 +3,24 @@ use crate::message::Notice;
 use crate::state::State;
 use crate::verdict::Verdict;
 
+/// How far a request at work has come: the next place that it treats, and its entries so far.
+#[derive(Drop)]
+pub struct Progress {
+    pub next: u16,
+    pub entries: Entries,
+}
+
 /// Whether a request stays at work or ends.
-#[derive(Clone, Copy)]
+#[derive(Drop)]
 pub enum Goes {
-    /// It goes on from this place, with these entries so far.
-    Stays(u16, Entries),
+    /// It goes on from here.
+    Stays(Progress),
     /// It gets its final.
     Ends(Verdict),
 }
 
 /// What one step makes of a request, beside what it does to robot and catalogue.
-#[derive(Clone, Copy)]
+#[derive(Drop)]
 pub struct Turn {
     pub state: State,
     pub notice: Option<Notice>,

@@ -8,7 +8,7 @@ use statuses::Status;
 use stock::refusal::Refusal;
 
 /// What a final has behind its status.
-#[derive(Clone, Copy)]
+#[derive(Drop)]
 pub enum Tail {
     Nothing,
     One(Entry),
@@ -17,7 +17,7 @@ pub enum Tail {
 }
 
 /// How a request ends, before its final is written.
-#[derive(Clone, Copy)]
+#[derive(Drop)]
 pub struct Verdict {
     pub status: Status,
     pub detail: Option<u8>,
@@ -25,51 +25,55 @@ pub struct Verdict {
 }
 
 /// A final: the request that it ends, and how.
-#[derive(Clone, Copy)]
+#[derive(Drop)]
 pub struct Final {
     pub request: Request,
     pub verdict: Verdict,
 }
 
-/// Success.
-pub fn done(tail: Tail) -> Verdict
-    ensures { verdict_of result ≡ done_with (shown_by tail) }
-{
-    Verdict {
-        status: Status::Success,
-        detail: None,
-        tail,
+impl Verdict {
+    /// Success.
+    pub fn done(tail: Tail) -> Verdict
+        ensures { verdict_of result ≡ done_with (shown_by tail) }
+    {
+        Verdict {
+            status: Status::Success,
+            detail: None,
+            tail,
+        }
     }
-}
 
-/// Success, telling the server's state.
-pub fn told(state: u8) -> Verdict
-    ensures { verdict_of result ≡ told_state state }
-{
-    Verdict {
-        status: Status::Success,
-        detail: Some(state),
-        tail: Tail::Nothing,
+    /// Success, telling the server's state.
+    pub fn told(state: u8) -> Verdict
+        ensures { verdict_of result ≡ told_state state }
+    {
+        Verdict {
+            status: Status::Success,
+            detail: Some(state),
+            tail: Tail::Nothing,
+        }
     }
-}
 
-/// A refusal.
-pub fn refused(status: Status, detail: Option<u8>, tail: Tail) -> Verdict
-    ensures { verdict_of result ≡ refused_by status detail (shown_by tail) }
-{
-    Verdict {
-        status,
-        detail,
-        tail,
+    /// A refusal.
+    pub fn refused(status: Status, detail: Option<u8>, tail: Tail) -> Verdict
+        ensures { verdict_of result ≡ refused_by status detail (shown_by tail) }
+    {
+        Verdict {
+            status,
+            detail,
+            tail,
+        }
     }
 }
 
 /// The end of a request that moved one cartridge, or did not.
-pub fn moved(res: Result<Entry, Refusal>) -> Verdict
-    ensures { verdict_of result ≡ moved_verdict res }
-{
-    match res {
-        Ok(entry) => done(Tail::One(entry)),
-        Err(why) => refused(why.status(), why.detail(), Tail::Nothing),
+impl From<Result<Entry, Refusal>> for Verdict {
+    ghost from_gives = { λ res verdict. verdict_of verdict ≡ moved_verdict res };
+
+    fn from(res: Result<Entry, Refusal>) -> Verdict {
+        match res {
+            Ok(entry) => Verdict::done(Tail::One(entry)),
+            Err(why) => Verdict::refused(Status::from(why), why.detail(), Tail::Nothing),
+        }
     }
 }

@@ -7,7 +7,7 @@ use crate::commands::Command;
 use labels::Label;
 
 /// Whether a request was cancelled or aborted before its turn. A packet carries no mark.
-#[derive(Clone, Copy)]
+#[derive(Clone, Copy, PartialEq, Eq, Debug)]
 pub enum Mark {
     Unmarked,
     Cancelled,

@@ -17,7 +17,7 @@ use statuses::Status;
 fn behind_label(e: Entry) -> [u8; 3]
     ensures { result ≡ behind_label e }
 {
-    [e.from, e.to, e.status.code()]
+    [e.from, e.to, u8::from(e.status)]
 }
 
 /// The cartridge's label, the places and the status.
@@ -65,7 +65,7 @@ fn take_entry(bytes: &[u8]) -> Option<(Entry, &[u8])>
     let [from, to, code, rest @ ..] = rest else {
         return None;
     };
-    let Some(status) = Status::of_code(*code) else {
+    let Ok(status) = Status::try_from(*code) else {
         return None;
     };
     Some((

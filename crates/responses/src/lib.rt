@@ -47,7 +47,7 @@ impl ResponseKind {
 }
 
 /// What became of one cartridge.
-#[derive(Clone, Copy)]
+#[derive(Clone, Copy, Default)]
 pub struct Entry {
     pub cartridge: u32,
     pub from: u8,

@@ -39,7 +39,7 @@ fn status_in(field: Option<u8>) -> Option<Status>
     ensures { result ≡ status_in field }
 {
     match field {
-        Some(code) => Status::of_code(code),
+        Some(code) => Status::try_from(code).ok(),
         None => None,
     }
 }

@@ -32,7 +32,7 @@ pub(crate) fn layer_code(status: Status) -> Option<u8>
     ensures { result ≡ layer_byte status }
 {
     match status.layer() {
-        Some(layer) => Some(layer.code()),
+        Some(layer) => Some(u8::from(layer)),
         None => None,
     }
 }
@@ -94,7 +94,7 @@ impl Response<'_> {
         let at = put(buffer, 0, &[self.map()]);
         let at = put_two(buffer, at, self.number);
         let at = put_one(buffer, at, self.command);
-        let at = put(buffer, at, &[self.kind.code(), self.status.code()]);
+        let at = put(buffer, at, &[self.kind.code(), u8::from(self.status)]);
         let at = put_one(buffer, at, layer_code(self.status));
         let at = put_one(buffer, at, self.detail);
         let at = put_entries(buffer, at, self.entries);

@@ -47,12 +47,12 @@ pub fn in_byte(p: u16) -> u8
     (p % 256) as u8
 }
 
-impl Refusal {
-    /// The status that tells it.
-    pub fn status(self) -> Status
-        ensures { result ≡ status_of self }
-    {
-        match self {
+/// The status that tells a refusal.
+impl From<Refusal> for Status {
+    ghost from_gives = { λ why status. status ≡ status_of why };
+
+    fn from(why: Refusal) -> Status {
+        match why {
             Refusal::BadMakeUp => Status::BadMakeUp,
             Refusal::NoFreeCell => Status::NoFreeCell,
             Refusal::NoVolume => Status::NoVolume,
@@ -66,7 +66,9 @@ impl Refusal {
             Refusal::LibraryFailure(_) => Status::LibraryFailure,
         }
     }
+}
 
+impl Refusal {
     /// The place that it is about, where it has one.
     pub fn detail(self) -> Option<u8>
         ensures { result ≡ detail_of self }

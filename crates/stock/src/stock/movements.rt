@@ -163,7 +163,7 @@ impl<R: Robot> Stock<R> {
                 self.catalogue.file(gone.cartridge, gone.to);
                 entry_for(gone.cartridge, p, gone.to, Status::Success)
             }
-            Err(why) => entry_for(number, p, p, why_stopped(Target::NextCell, why).status()),
+            Err(why) => entry_for(number, p, p, Status::from(why_stopped(Target::NextCell, why))),
         }
     }
 

@@ -21,6 +21,6 @@ returns c =
     let w6 = wrote_then (omega arith) w5 (c.put_one-at-3.ensures.wrote (omega (arith, one_width r.detail))) in
     let w7 = wrote_then (omega arith) w6 c.put_entries-at.ensures.wrote in
     let w8 = wrote_then (omega arith) w7 c.put_inventory.ensures.wrote in
-    let j = joined (told r) c.map.result c.code.result c.code-2.result c.layer_code.result c.map.ensures c.code.ensures c.code-2.ensures c.layer_code.ensures in
+    let j = joined (told r) c.map.result c.code.result c.from.result c.layer_code.result c.map.ensures c.code.ensures c.from.ensures c.layer_code.ensures in
     let w = wrote_front _ _ _ _ (wrote_same _ _ j w8) in
     record { after = w.0; end = w.1; bound = search rules }
