@@ -10,15 +10,7 @@ pub fn names_drive(drive: u8, body: Body) -> bool
     ensures { result ≡ names_drive drive body }
 {
     match body {
-        Body::Mount {
-            label: _,
-            drive: named,
-        } => named == drive,
-        Body::Dismount {
-            label: _,
-            drive: named,
-            force: _,
-        } => named == drive,
+        Body::Mount { drive: named, .. } | Body::Dismount { drive: named, .. } => named == drive,
         _ => false,
     }
 }
@@ -27,8 +19,7 @@ fn may_cancel(body: Body) -> bool
     ensures { result ≡ may_cancel body }
 {
     match body {
-        Body::Eject { label: _ } => true,
-        Body::Enter => true,
+        Body::Eject { .. } | Body::Enter => true,
         _ => false,
     }
 }

@@ -1,3 +1,6 @@
+ghost use Rattle.library.specs.Entering.{entries_in};
+ghost use Rattle.std.specs.Prelude.{◌≡◌, []};
+
 use crate::entries::Entries;
 use crate::message::Notice;
 use crate::state::State;
@@ -8,6 +11,19 @@ use crate::verdict::Verdict;
 pub struct Progress {
     pub next: u16,
     pub entries: Entries,
+}
+
+impl Progress {
+    /// How far a request has come that was only taken.
+    pub fn start() -> Progress
+        ensures next { result.next ≡ 0 }
+        ensures entries { entries_in result.entries ≡ [] }
+    {
+        Progress {
+            next: 0,
+            entries: Entries::new(),
+        }
+    }
 }
 
 /// Whether a request stays at work or ends.
