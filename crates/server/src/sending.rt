@@ -22,10 +22,7 @@ fn send(response: &Response, buffer: &mut [u8]) -> usize
     ensures after { buffer.new ≡ left (told response.now) buffer.old }
     ensures bound { result ≤ 2048 }
 {
-    match response.write(buffer) {
-        Ok(length) => length,
-        Err(_) => 0,
-    }
+    response.write(buffer).unwrap_or(0)
 }
 
 /// Writes the final that refuses a packet.
@@ -61,22 +58,22 @@ fn send_acknowledge(request: Request, buffer: &mut [u8]) -> usize
 }
 
 /// Writes a final; an inventory is asked of the robot now.
-pub fn send_final<R: Robot>(core: &Core<R>, ended: Final, buffer: &mut [u8]) -> usize
-    ensures length { result ≡ length_in buffer.old (final_told (final_of ended) (stock_of R.Questions.meaning core.now.stock).robot) }
-    ensures after { buffer.new ≡ left (final_told (final_of ended) (stock_of R.Questions.meaning core.now.stock).robot) buffer.old }
+pub fn send_final<R: Robot>(core: &Core<R>, ended: &Final, buffer: &mut [u8]) -> usize
+    ensures length { result ≡ length_in buffer.old (final_told (final_of ended.now) (stock_of R.Questions.meaning core.now.stock).robot) }
+    ensures after { buffer.new ≡ left (final_told (final_of ended.now) (stock_of R.Questions.meaning core.now.stock).robot) buffer.old }
     ensures bound { result ≤ 2048 }
 {
     let number = Some(ended.request.number);
     let command = Some(ended.request.body.command().code());
     let status = ended.verdict.status;
     let detail = ended.verdict.detail;
-    match ended.verdict.tail {
+    match &ended.verdict.tail {
         Tail::Nothing => send(
             &Response::plain(number, command, ResponseKind::Final, status, detail),
             buffer,
         ),
         Tail::One(entry) => send(
-            &Response::with_entries(number, command, status, detail, &[entry]),
+            &Response::with_entries(number, command, status, detail, &[*entry]),
             buffer,
         ),
         Tail::Many(entries) => {
@@ -96,13 +93,13 @@ pub fn send_final<R: Robot>(core: &Core<R>, ended: Final, buffer: &mut [u8]) -> 
 }
 
 /// Writes what a received request is answered.
-pub fn send_answer<R: Robot>(core: &Core<R>, answer: Answer, buffer: &mut [u8]) -> usize
-    ensures length { result ≡ length_in buffer.old (said_told (said_by answer) (stock_of R.Questions.meaning core.now.stock).robot) }
-    ensures after { buffer.new ≡ left (said_told (said_by answer) (stock_of R.Questions.meaning core.now.stock).robot) buffer.old }
+pub fn send_answer<R: Robot>(core: &Core<R>, answer: &Answer, buffer: &mut [u8]) -> usize
+    ensures length { result ≡ length_in buffer.old (said_told (said_by answer.now) (stock_of R.Questions.meaning core.now.stock).robot) }
+    ensures after { buffer.new ≡ left (said_told (said_by answer.now) (stock_of R.Questions.meaning core.now.stock).robot) buffer.old }
     ensures bound { result ≤ 2048 }
 {
     match answer {
-        Answer::Acknowledge(request) => send_acknowledge(request, buffer),
+        Answer::Acknowledge(request) => send_acknowledge(*request, buffer),
         Answer::Final(ended) => send_final(core, ended, buffer),
     }
 }

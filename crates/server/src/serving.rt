@@ -1,5 +1,3 @@
-ghost use Rattle.library.specs.Cores.{Live};
-
 use library::cores::Core;
 
 pub mod calls;
@@ -9,12 +7,10 @@ pub mod door;
 #[derive(Drop)]
 pub struct Serving<'a, R> {
     core: Core<'a, R>,
-    ghost live: { Live core },
 }
 
 /// A library whose door is open: hands reach every place, and no packet comes in.
 #[derive(Drop)]
 pub(crate) struct Open<'a, R> {
     core: Core<'a, R>,
-    ghost live: { Live core },
 }

@@ -6,7 +6,7 @@ use robots::fault::Fault;
 use statuses::Status;
 
 /// Why a step ended a request without success; a robot's fault is kept whole.
-#[derive(Clone, Copy)]
+#[derive(Clone, Copy, PartialEq, Eq, Debug)]
 pub enum Refusal {
     /// No place, or too many places or port places, for a start.
     BadMakeUp,
@@ -74,10 +74,10 @@ impl Refusal {
         ensures { result ≡ detail_of self }
     {
         match self {
-            Refusal::InDrive(p) => Some(in_byte(p)),
-            Refusal::DriveInUse(p) => Some(in_byte(p)),
-            Refusal::DriveEmpty(p) => Some(in_byte(p)),
-            Refusal::OtherVolume(p) => Some(in_byte(p)),
+            Refusal::InDrive(p)
+            | Refusal::DriveInUse(p)
+            | Refusal::DriveEmpty(p)
+            | Refusal::OtherVolume(p) => Some(in_byte(p)),
             Refusal::LibraryFailure(fault) => Some(in_byte(fault.place())),
             _ => None,
         }

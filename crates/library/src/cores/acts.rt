@@ -1,12 +1,14 @@
 ghost use Rattle.library.specs.Changes.{with_drives, with_requests};
-ghost use Rattle.library.specs.Cores.{library_of};
+ghost use Rattle.library.specs.Cores.{library_of, work_of};
 ghost use Rattle.library.specs.Drives.{drive_told, named};
 ghost use Rattle.library.specs.Making.{fresh};
+ghost use Rattle.library.specs.Marks.{work_meets};
 ghost use Rattle.library.specs.Posting.{with_posted};
 ghost use Rattle.requests.specs.declared.bodies.Request.{Request};
+ghost use Rattle.ring.specs.Order.{any_of};
 ghost use Rattle.ring.specs.Queue.{Answers, records};
 ghost use Rattle.stock.specs.Models.{stock_of};
-ghost use Rattle.std.specs.Prelude.{◌≡◌, length};
+ghost use Rattle.std.specs.Prelude.{◌≡◌, Bool, ◌||◌, length};
 
 use super::Core;
 use crate::drive::{DriveEvent, DriveState};
@@ -68,7 +70,20 @@ impl<'a, R: Robot> Core<'a, R> {
     pub fn turn_drive(&mut self, drive: u8, event: DriveEvent)
         ensures { library_of R.Questions.meaning self.new ≡ with_drives (drive_told self.old.drives drive event) (library_of R.Questions.meaning self.old) }
     {
-        self.drives[drive as usize].turn(event);
+        self.drives[usize::from(drive)].turn(event);
+    }
+
+    /// Whether some request, waiting or at work, meets the condition.
+    pub fn any_request<F: Fn(Request) -> bool>(&self, is_met: F) -> bool
+        requires { F.IsAlwaysCallable is_met }
+        ensures { (p : Request → Bool) → Answers (F.post is_met) p → result ≡ (work_meets p (work_of self.now.work) || any_of p (records self.now.waiting)) }
+    {
+        if let Some(work) = &self.work {
+            if is_met(work.request) {
+                return true;
+            }
+        }
+        self.waiting.any(&is_met)
     }
 
     /// Changes each request, waiting or at work.

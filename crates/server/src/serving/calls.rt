@@ -1,7 +1,7 @@
 ghost use Rattle.std.specs.Prelude.{◌≡◌, ◌≤◌, [], length, IfOk};
-ghost use Rattle.library.specs.Cores.{Live, library_of, work_of};
+ghost use Rattle.library.specs.Cores.{library_of};
 ghost use Rattle.library.specs.Making.{fresh};
-ghost use Rattle.server.specs.Calls.{in_use, number_read, receive_call, step_call, used_by, work_has};
+ghost use Rattle.server.specs.Calls.{number_read, receive_call, step_call, used_by};
 ghost use Rattle.server.specs.Door.{message_call};
 ghost use Rattle.server.specs.Hands.{put_call, service_call, take_call};
 
@@ -9,8 +9,7 @@ use super::Serving;
 use crate::hands::{put, switch, take};
 use crate::refusal::CallRefusal;
 use crate::sending::{send_answer, send_bad_packet, send_final};
-use library::cores::{Core, Work};
-use library::marks::Numbered;
+use library::cores::Core;
 use library::message::Message;
 use receipt::receive::receive;
 use requests::{BadPacket, Request, read};
@@ -33,29 +32,12 @@ fn number_in(read: &Result<Request, BadPacket>) -> Option<u16>
     }
 }
 
-fn work_has(work: Option<Work>, number: u16) -> bool
-    ensures { result ≡ work_has (work_of work) number }
-{
-    match work {
-        Some(work) => work.request.number == number,
-        None => false,
-    }
-}
-
-fn in_use<R: Robot>(core: &Core<R>, number: u16) -> bool
-    requires { Live core.now }
-    ensures { result ≡ in_use (library_of R.Questions.meaning core.now) number }
-{
-    work_has(core.work, number) || core.waiting.any(&Numbered(number))
-}
-
 /// Whether the number is one waiting or at work.
 fn is_used<R: Robot>(core: &Core<R>, number: Option<u16>) -> bool
-    requires { Live core.now }
     ensures { result ≡ used_by (library_of R.Questions.meaning core.now) number }
 {
     match number {
-        Some(number) => in_use(core, number),
+        Some(number) => core.any_request(|q| q.number == number),
         None => false,
     }
 }
@@ -96,7 +78,7 @@ impl<'a, R: Robot> Serving<'a, R> {
             Err(bad) => Ok(send_bad_packet(bad, buffer)),
             Ok(request) => {
                 let answer = receive(&mut self.core, request);
-                Ok(send_answer(&self.core, answer, buffer))
+                Ok(send_answer(&self.core, &answer, buffer))
             }
         }
     }
@@ -113,7 +95,7 @@ impl<'a, R: Robot> Serving<'a, R> {
         }
         match step(&mut self.core) {
             None => Ok(0),
-            Some(ended) => Ok(send_final(&self.core, ended, buffer)),
+            Some(ended) => Ok(send_final(&self.core, &ended, buffer)),
         }
     }
 
