@@ -11,6 +11,7 @@ mod characters;
 mod examples;
 mod numbers;
 mod six;
+mod words;
 
 pub use examples::worked_numbers;
 pub use six::{number_of_six, six_for};

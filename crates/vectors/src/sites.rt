@@ -108,12 +108,8 @@ fn cancelled_half_way(rt: HostRuntime) -> Result<(), Fail> {
 /// `000000` and cell 255 `ZZZZZZ`.
 fn large_site() -> [Place; 256] {
     let mut places = [CELL; 256];
-    for p in 0..21 {
-        places[p] = PORT;
-    }
-    for p in 21..25 {
-        places[p] = DRIVE;
-    }
+    places[0..21].fill(PORT);
+    places[21..25].fill(DRIVE);
     places[21].cartridge = UNREADABLE_NUMBER;
     places[25].cartridge = 1;
     places[255].cartridge = 2_176_782_336;
