@@ -51,7 +51,7 @@ impl<'a, R: Robot + Drop> Serving<'a, R> {
         waiting: &'a mut [Request],
         messages: &'a mut [Message],
     ) -> Result<Serving<'a, R>, AllocError>
-        ensures { IfOk result (λ s. library_of R.Questions.meaning s.core ≡ fresh (record { robot = R.Questions.meaning robot; filed = [] }) (length waiting.old) (length messages.old)) }
+        ensures { IfOk result (λ s. s ≡ fresh (record { robot = R.Questions.meaning robot; filed = [] }) (length waiting.old) (length messages.old)) }
     {
         let catalogue = Catalogue::new(heap)?;
         let core = Core::new(Stock::new(robot, catalogue), waiting, messages);
@@ -62,9 +62,9 @@ impl<'a, R: Robot + Drop> Serving<'a, R> {
 impl<'a, R: Robot> Serving<'a, R> {
     /// Receives a packet: writes one response at the front of the buffer, and tells its length.
     pub fn receive(&mut self, packet: &[u8], buffer: &mut [u8]) -> Result<usize, CallRefusal>
-        ensures answer { result ≡ (receive_call packet.now buffer.old (library_of R.Questions.meaning self.old.core)).answer }
-        ensures buffer { buffer.new ≡ (receive_call packet.now buffer.old (library_of R.Questions.meaning self.old.core)).buffer }
-        ensures library { library_of R.Questions.meaning self.new.core ≡ (receive_call packet.now buffer.old (library_of R.Questions.meaning self.old.core)).library }
+        ensures answer { result ≡ (receive_call packet.now buffer.old self.old).answer }
+        ensures buffer { buffer.new ≡ (receive_call packet.now buffer.old self.old).buffer }
+        ensures library { self.new ≡ (receive_call packet.now buffer.old self.old).library }
         ensures bound { IfOk result (λ n. n ≤ 2048) }
     {
         if buffer.len() < RESPONSE_ROOM {
@@ -85,9 +85,9 @@ impl<'a, R: Robot> Serving<'a, R> {
 
     /// Goes one step on: writes the final that it ends a request with, and tells its length, or 0 where it writes nothing.
     pub fn step(&mut self, buffer: &mut [u8]) -> Result<usize, CallRefusal>
-        ensures answer { result ≡ (step_call buffer.old (library_of R.Questions.meaning self.old.core)).answer }
-        ensures buffer { buffer.new ≡ (step_call buffer.old (library_of R.Questions.meaning self.old.core)).buffer }
-        ensures library { library_of R.Questions.meaning self.new.core ≡ (step_call buffer.old (library_of R.Questions.meaning self.old.core)).library }
+        ensures answer { result ≡ (step_call buffer.old self.old).answer }
+        ensures buffer { buffer.new ≡ (step_call buffer.old self.old).buffer }
+        ensures library { self.new ≡ (step_call buffer.old self.old).library }
         ensures bound { IfOk result (λ n. n ≤ 2048) }
     {
         if buffer.len() < RESPONSE_ROOM {
@@ -101,9 +101,9 @@ impl<'a, R: Robot> Serving<'a, R> {
 
     /// Takes the oldest message to the operator, if there is one, and tells how many were dropped.
     pub(crate) fn message(&mut self) -> (Option<Message>, u16)
-        ensures message { result.0 ≡ (message_call (library_of R.Questions.meaning self.old.core)).message }
-        ensures dropped { result.1 ≡ (message_call (library_of R.Questions.meaning self.old.core)).dropped }
-        ensures library { library_of R.Questions.meaning self.new.core ≡ (message_call (library_of R.Questions.meaning self.old.core)).library }
+        ensures message { result.0 ≡ (message_call self.old).message }
+        ensures dropped { result.1 ≡ (message_call self.old).dropped }
+        ensures library { self.new ≡ (message_call self.old).library }
     {
         let message = self.core.messages.pop();
         (message, self.core.dropped)
@@ -111,24 +111,24 @@ impl<'a, R: Robot> Serving<'a, R> {
 
     /// A person puts a cartridge into a port place.
     pub fn put(&mut self, place: u16, number: u32) -> Result<(), CallRefusal>
-        ensures answer { result ≡ (put_call (library_of R.Questions.meaning self.old.core) place number).answer }
-        ensures library { library_of R.Questions.meaning self.new.core ≡ (put_call (library_of R.Questions.meaning self.old.core) place number).library }
+        ensures answer { result ≡ (put_call self.old place number).answer }
+        ensures library { self.new ≡ (put_call self.old place number).library }
     {
         put(&mut self.core, place, number)
     }
 
     /// A person takes the cartridge out of a port place, and its number is told.
     pub fn take(&mut self, place: u16) -> Result<u32, CallRefusal>
-        ensures answer { result ≡ (take_call (library_of R.Questions.meaning self.old.core) place).answer }
-        ensures library { library_of R.Questions.meaning self.new.core ≡ (take_call (library_of R.Questions.meaning self.old.core) place).library }
+        ensures answer { result ≡ (take_call self.old place).answer }
+        ensures library { self.new ≡ (take_call self.old place).library }
     {
         take(&mut self.core, place)
     }
 
     /// Puts a place into service, or out of it.
     pub fn service(&mut self, place: u16, on: bool) -> Result<(), CallRefusal>
-        ensures answer { result ≡ (service_call (library_of R.Questions.meaning self.old.core) place on).answer }
-        ensures library { library_of R.Questions.meaning self.new.core ≡ (service_call (library_of R.Questions.meaning self.old.core) place on).library }
+        ensures answer { result ≡ (service_call self.old place on).answer }
+        ensures library { self.new ≡ (service_call self.old place on).library }
     {
         switch(&mut self.core, place, on)
     }
