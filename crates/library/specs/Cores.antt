@@ -5,11 +5,10 @@ use Rattle.robots.specs.Meaning.{Meaning}
 use Rattle.stock.specs.Models.{stock_of}
 use Rattle.library.specs.declared.cores.Work.{Work}
 use Rattle.library.specs.declared.cores.Core.{Core}
-use Rattle.library.specs.Entering.{entries_in}
 use Rattle.library.specs.Library.{Job, Library}
 
 abbrev pub job_of : Work → Job
-job_of w = record { request = w.request; next = w.progress.next; entries = entries_in w.progress.entries }
+job_of w = record { request = w.request; next = w.progress.next; entries = w.progress.entries }
 
 abbrev pub work_of : Option Work → Option Job
 work_of None = None

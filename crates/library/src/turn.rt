@@ -1,4 +1,3 @@
-ghost use Rattle.library.specs.Entering.{entries_in};
 ghost use Rattle.std.specs.Prelude.{◌≡◌, []};
 
 use crate::entries::Entries;
@@ -17,7 +16,7 @@ impl Progress {
     /// How far a request has come that was only taken.
     pub fn start() -> Progress
         ensures next { result.next ≡ 0 }
-        ensures entries { entries_in result.entries ≡ [] }
+        ensures entries { result.entries ≡ [] }
     {
         Progress {
             next: 0,

@@ -1,6 +1,5 @@
 //! The end of a marked request.
 
-ghost use Rattle.library.specs.Entering.{entries_in};
 ghost use Rattle.library.specs.Turns.Going.{ends};
 ghost use Rattle.library.specs.Turns.{course_of};
 ghost use Rattle.library.specs.Verdicts.{refused_by, shown_by};
@@ -17,7 +16,7 @@ use statuses::Status;
 
 /// Every final of an enter has its entries.
 fn tail(body: Body, entries: Entries) -> Tail
-    ensures { shown_by result ≡ shown_marked body (entries_in entries) }
+    ensures { shown_by result ≡ shown_marked body entries }
 {
     match body {
         Body::Enter => Tail::Many(entries),
@@ -33,7 +32,7 @@ pub fn end_marked(
     status: Status,
     detail: Option<u8>,
 ) -> Turn
-    ensures { course_of result ≡ quietly state (ends (refused_by status detail (shown_marked body (entries_in entries)))) }
+    ensures { course_of result ≡ quietly state (ends (refused_by status detail (shown_marked body entries))) }
 {
     let verdict = Verdict::refused(status, detail, tail(body, entries));
     quiet(state, Goes::Ends(verdict))

@@ -1,7 +1,6 @@
 //! One step.
 
 ghost use Rattle.library.specs.Cores.{library_of};
-ghost use Rattle.library.specs.Entering.{entries_in};
 ghost use Rattle.library.specs.Finals.{final_in};
 ghost use Rattle.library.specs.Turns.{course_of};
 ghost use Rattle.ring.specs.Queue.{records};
@@ -48,8 +47,8 @@ fn go_on_with<R: Robot>(
     request: Request,
     progress: Progress,
 ) -> Turn
-    ensures turn { course_of result ≡ (continued request.mark request.body (stock_of R.Questions.meaning stock.old) state progress.next (entries_in progress.entries)).course }
-    ensures stock { stock_of R.Questions.meaning stock.new ≡ (continued request.mark request.body (stock_of R.Questions.meaning stock.old) state progress.next (entries_in progress.entries)).stock }
+    ensures turn { course_of result ≡ (continued request.mark request.body (stock_of R.Questions.meaning stock.old) state progress.next progress.entries).course }
+    ensures stock { stock_of R.Questions.meaning stock.new ≡ (continued request.mark request.body (stock_of R.Questions.meaning stock.old) state progress.next progress.entries).stock }
 {
     match request.mark {
         Mark::Unmarked => go_on(stock, state, request.body, progress),

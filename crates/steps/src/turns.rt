@@ -1,7 +1,6 @@
 //! What a step makes of an unmarked request.
 
 ghost use Rattle.labels.specs.Numbers.{number_of};
-ghost use Rattle.library.specs.Entering.{entries_in};
 ghost use Rattle.library.specs.Turns.{course_of, going_of};
 ghost use Rattle.robot_moves.specs.Search.{next_full_port};
 ghost use Rattle.steps.specs.Turning.{begun, ended_at_once, enter_on, entering, gone_on, idling, quietly, start_on, start_taken};
@@ -61,8 +60,8 @@ fn become_idle() -> Turn
 
 /// An enter treats the next full port place, or ends where none is left.
 fn go_on_entering<R: Robot>(stock: &mut Stock<R>, state: State, progress: Progress) -> Turn
-    ensures turn { course_of result ≡ (enter_on (next_full_port (stock_of R.Questions.meaning stock.old).robot progress.next) (stock_of R.Questions.meaning stock.old) state (entries_in progress.entries)).course }
-    ensures stock { stock_of R.Questions.meaning stock.new ≡ (enter_on (next_full_port (stock_of R.Questions.meaning stock.old).robot progress.next) (stock_of R.Questions.meaning stock.old) state (entries_in progress.entries)).stock }
+    ensures turn { course_of result ≡ (enter_on (next_full_port (stock_of R.Questions.meaning stock.old).robot progress.next) (stock_of R.Questions.meaning stock.old) state progress.entries).course }
+    ensures stock { stock_of R.Questions.meaning stock.new ≡ (enter_on (next_full_port (stock_of R.Questions.meaning stock.old).robot progress.next) (stock_of R.Questions.meaning stock.old) state progress.entries).stock }
 {
     let Progress { next, entries } = progress;
     let Some(place) = stock.full_port(next) else {
@@ -92,8 +91,8 @@ fn take_start<R: Robot>(stock: &mut Stock<R>, state: State) -> Turn
 
 /// A start reads one place; the last one ends it.
 fn go_on_reading<R: Robot>(stock: &mut Stock<R>, state: State, progress: Progress) -> Turn
-    ensures turn { course_of result ≡ (start_on (stock_of R.Questions.meaning stock.old) state progress.next (entries_in progress.entries)).course }
-    ensures stock { stock_of R.Questions.meaning stock.new ≡ (start_on (stock_of R.Questions.meaning stock.old) state progress.next (entries_in progress.entries)).stock }
+    ensures turn { course_of result ≡ (start_on (stock_of R.Questions.meaning stock.old) state progress.next progress.entries).course }
+    ensures stock { stock_of R.Questions.meaning stock.new ≡ (start_on (stock_of R.Questions.meaning stock.old) state progress.next progress.entries).stock }
 {
     let Progress { next, entries } = progress;
     stock.read(next);
@@ -139,8 +138,8 @@ pub fn begin<R: Robot>(stock: &mut Stock<R>, state: State, body: Body) -> Turn
 
 /// A later step.
 pub fn go_on<R: Robot>(stock: &mut Stock<R>, state: State, body: Body, progress: Progress) -> Turn
-    ensures turn { course_of result ≡ (gone_on body (stock_of R.Questions.meaning stock.old) state progress.next (entries_in progress.entries)).course }
-    ensures stock { stock_of R.Questions.meaning stock.new ≡ (gone_on body (stock_of R.Questions.meaning stock.old) state progress.next (entries_in progress.entries)).stock }
+    ensures turn { course_of result ≡ (gone_on body (stock_of R.Questions.meaning stock.old) state progress.next progress.entries).course }
+    ensures stock { stock_of R.Questions.meaning stock.new ≡ (gone_on body (stock_of R.Questions.meaning stock.old) state progress.next progress.entries).stock }
 {
     match body {
         Body::Enter => go_on_entering(stock, state, progress),
