@@ -9,6 +9,7 @@ use library::cores::{Core, Work};
 use library::marks::{Cancel, cancels};
 use library::state::State;
 use requests::{Body, DriveSetting};
+use robots::kind::Kind;
 use robots::robot::Robot;
 
 /// Whether the state serves the request.
@@ -101,7 +102,7 @@ fn check_drive<R: Robot>(core: &Core<R>, drive: u8) -> Option<NotReceived>
     ensures { result ≡ drive_refusal (drive_there (library_of R.Questions.meaning core.now) drive) (drive_online (library_of R.Questions.meaning core.now) drive) drive }
 {
     let place = drive as u16;
-    if !core.stock.is_drive(place) {
+    if !core.stock.is_of(Kind::Drive, place) {
         return Some(NotReceived::NoDrive(place));
     }
     if is_online(core, drive) {
@@ -116,7 +117,7 @@ fn check_vary<R: Robot>(core: &Core<R>, drive: u8, setting: DriveSetting) -> Opt
     ensures { result ≡ vary_refusal (drive_there (library_of R.Questions.meaning core.now) drive) (is_so setting (drive_online (library_of R.Questions.meaning core.now) drive)) drive }
 {
     let place = drive as u16;
-    if !core.stock.is_drive(place) {
+    if !core.stock.is_of(Kind::Drive, place) {
         return Some(NotReceived::NoDrive(place));
     }
     if is_so(setting, is_online(core, drive)) {

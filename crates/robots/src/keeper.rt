@@ -29,6 +29,7 @@ pub trait Keeper {
         ensures { result ≡ place_asked (kept self.now) p };
 
     /// Place p and the hand now hold these.
+    // A number stays a plain `u32`, with its bound here: a caller of `put` may give any, and wrong ones are refused.
     fn store(&mut self, p: u16, number: u32, hand: u32)
         requires within { p < count (kept self.old) }
         requires numbered { number ≤ unreadable_number }

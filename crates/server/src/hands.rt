@@ -8,6 +8,7 @@ ghost use Rattle.std.specs.Prelude.{◌≡◌, true, None};
 use crate::refusal::{CallRefusal, why_not_put, why_not_taken};
 use library::cores::{Core, Work};
 use requests::Body;
+use robots::kind::Kind;
 use robots::robot::Robot;
 
 /// Whether an enter is at work.
@@ -30,7 +31,7 @@ fn reach<R: Robot>(core: &Core<R>, place: u16) -> Option<CallRefusal>
     if place >= core.stock.places() {
         return Some(CallRefusal::NoPlace);
     }
-    if !core.stock.is_port(place) {
+    if !core.stock.is_of(Kind::Port, place) {
         return Some(CallRefusal::NotPort);
     }
     if is_entering(core.work) {
