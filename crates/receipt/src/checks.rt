@@ -10,6 +10,7 @@ use library::cores::Core;
 use library::marks::cancels;
 use library::state::State;
 use requests::{Body, DriveSetting};
+use robots::kind::Kind;
 use robots::robot::Robot;
 
 /// Whether the state serves the request.
@@ -76,7 +77,7 @@ fn check_drive<R: Robot>(core: &Core<R>, drive: u8) -> Result<(), NotReceived>
     ensures { result_err result ≡ drive_refusal (drive_there (library_of R.Questions.meaning core.now) drive) (drive_online (library_of R.Questions.meaning core.now) drive) drive }
 {
     let place = u16::from(drive);
-    if !core.stock.is_drive(place) {
+    if !core.stock.is_of(Kind::Drive, place) {
         return Err(NotReceived::NoDrive(place));
     }
     if is_online(core, drive) {
@@ -90,7 +91,7 @@ fn check_vary<R: Robot>(core: &Core<R>, drive: u8, setting: DriveSetting) -> Res
     ensures { result_err result ≡ vary_refusal (drive_there (library_of R.Questions.meaning core.now) drive) (is_so setting (drive_online (library_of R.Questions.meaning core.now) drive)) drive }
 {
     let place = u16::from(drive);
-    if !core.stock.is_drive(place) {
+    if !core.stock.is_of(Kind::Drive, place) {
         return Err(NotReceived::NoDrive(place));
     }
     if is_so(setting, is_online(core, drive)) {

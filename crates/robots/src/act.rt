@@ -8,7 +8,7 @@ use crate::kind::Kind;
 use crate::robot::{Questions, Robot};
 
 /// Something to ask of a robot.
-#[derive(Clone, Copy)]
+#[derive(Clone, Copy, PartialEq, Eq, Debug)]
 pub enum Question {
     Places,
     Hand,
@@ -18,7 +18,7 @@ pub enum Question {
 }
 
 /// What a robot tells.
-#[derive(Clone, Copy)]
+#[derive(Clone, Copy, PartialEq, Eq, Debug)]
 pub enum Reply {
     Count(u16),
     InHand(u32),
@@ -28,7 +28,7 @@ pub enum Reply {
 }
 
 /// Something for a robot to do.
-#[derive(Clone, Copy)]
+#[derive(Clone, Copy, PartialEq, Eq, Debug)]
 pub enum Act {
     Lift(u16),
     Set(u16),
@@ -38,7 +38,7 @@ pub enum Act {
 }
 
 /// What an act answers.
-#[derive(Clone, Copy)]
+#[derive(Clone, Copy, PartialEq, Eq, Debug)]
 pub enum Answer {
     /// A lift or a take: the cartridge's number.
     Number(Result<u32, Fault>),

@@ -4,7 +4,7 @@ ghost use Rattle.std.specs.Prelude.{◌≡◌};
 use crate::kind::Kind;
 
 /// A place with all that a robot's meaning says of it.
-#[derive(Clone, Copy)]
+#[derive(Clone, Copy, PartialEq, Eq, Debug)]
 pub struct Place {
     pub kind: Kind,
     /// The number of the cartridge that it holds, or 0.

@@ -9,6 +9,7 @@ ghost use Rattle.std.specs.Result.{result_err};
 use crate::refusal::{CallRefusal, why_not_put, why_not_taken};
 use library::cores::{Core, Work};
 use requests::Body;
+use robots::kind::Kind;
 use robots::robot::Robot;
 
 /// Whether an enter is at work.
@@ -28,7 +29,7 @@ fn reach<R: Robot>(core: &Core<R>, place: u16) -> Result<(), CallRefusal>
     if place >= core.stock.places() {
         return Err(CallRefusal::NoPlace);
     }
-    if !core.stock.is_port(place) {
+    if !core.stock.is_of(Kind::Port, place) {
         return Err(CallRefusal::NotPort);
     }
     if is_entering(&core.work) {

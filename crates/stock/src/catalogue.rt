@@ -3,21 +3,22 @@ ghost use Rattle.std.specs.Prelude.{◌≤◌, vec_capacity};
 pub mod acts;
 
 /// A cartridge and the place where it is filed.
-#[derive(Clone, Copy, Drop)]
+#[derive(Clone, Copy, PartialEq, Eq, Debug, Drop)]
 pub struct Filed {
     pub number: u32,
     pub place: u16,
 }
 
 /// A row of the catalogue: where it stands, and the place that it names.
-#[derive(Clone, Copy)]
+#[derive(Clone, Copy, PartialEq, Eq, Debug)]
 pub struct Row {
     pub index: usize,
     pub place: u16,
 }
 
 /// Where a label is filed: in one row, or in several.
-#[derive(Clone, Copy)]
+// No `Result`: it is no failure of a lookup that there are several, and an enter asks only whether there is any.
+#[derive(Clone, Copy, PartialEq, Eq, Debug)]
 pub enum Volume {
     One(Row),
     Several,

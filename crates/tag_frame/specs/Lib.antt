@@ -1,5 +1,4 @@
 pub mod Tags
-pub mod Tables
 pub mod Sites
 pub mod Frames
 pub mod Tagged

@@ -1,18 +1,20 @@
-ghost use Rattle.std.specs.Prelude.{◌≡◌, ◌≤◌, vec_len};
+ghost use Rattle.std.specs.Prelude.{◌≡◌, ◌≤◌, true, length, vec_capacity, vec_len};
 ghost use Rattle.labels.specs.Numbers.{unreadable_number};
+ghost use Rattle.tag_frame.specs.Tags.{tidy};
 
 use crate::site::Site;
-use crate::table::Table;
+use crate::tag::Tag;
 
 pub mod acts;
 
-/// A robot that keeps a list of cartridges, each with its place.
+/// A robot that keeps a list of cartridges, each with its place. There is room for one at every place.
 #[derive(Drop)]
 pub struct TagFrame {
     sites: Vec<Site>,
-    table: Table,
+    tags: Vec<Tag>,
     hand: u32,
     ghost few: { vec_len sites ≤ 256 },
-    ghost tabled: { table.count ≡ vec_len sites },
+    ghost distinct: { tidy (length sites.items) tags.items ≡ true },
+    ghost room: { length sites.items ≤ vec_capacity tags },
     ghost handed: { hand ≤ unreadable_number },
 }

@@ -4,5 +4,4 @@
 
 pub mod frame;
 mod site;
-mod table;
 mod tag;

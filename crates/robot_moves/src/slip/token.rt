@@ -1,43 +1,30 @@
 ghost use Rattle.std.specs.Prelude.{◌≡◌};
-ghost use Rattle.robot_moves.specs.Slips.{found_in_hand, slip_from};
+ghost use Rattle.robot_moves.specs.Slips.{token_of};
 
-/// Held for a cartridge in the hand, until it is set down or put back. It is not `Drop`, so that no
-/// slip is let go unspent.
-pub struct Slip {
-    from: u16,
+/// Held for a cartridge in the hand, until it is set down or put back, or stays there since no cell is free. It is
+/// not `Drop`, so that none is let go unspent.
+pub struct Token<T> {
+    of: T,
 }
 
-impl Slip {
-    pub(super) fn new(from: u16) -> Slip
-        ensures { result ≡ slip_from from }
+/// The token for a cartridge that was lifted: it has the place that it was lifted from.
+pub type Slip = Token<u16>;
+
+/// The token for a cartridge that was in the hand before: it has its number.
+pub type Found = Token<u32>;
+
+impl<T> Token<T> {
+    pub(super) fn new(of: T) -> Token<T>
+        ensures { result ≡ token_of of }
     {
-        Slip { from }
+        Token { of }
     }
 
-    /// Ends the slip, and tells the place that the cartridge was lifted from.
-    pub(super) fn spend(self) -> u16
-        ensures { result ≡ self.from }
+    /// Ends the token, and tells what it has.
+    pub(super) fn spend(self) -> T
+        ensures { result ≡ self.of }
     {
-        let Slip { from } = self;
-        from
-    }
-}
-
-/// Held for a cartridge that was in the hand before, until it is set down, or stays there since no cell is free.
-/// Nor is this token let go.
-pub struct Found {
-    cartridge: u32,
-}
-
-impl Found {
-    pub(super) fn new(cartridge: u32) -> Found
-        ensures { result ≡ found_in_hand cartridge }
-    {
-        Found { cartridge }
-    }
-
-    /// Ends the token.
-    pub(super) fn spend(self) {
-        let Found { cartridge: _ } = self;
+        let Token { of } = self;
+        of
     }
 }

@@ -1,46 +1,41 @@
-ghost use Rattle.std.specs.Prelude.{◌≡◌, ◌+◌, [], IfOk};
+ghost use Rattle.std.specs.Prelude.{◌≡◌, ◌+◌, ◌<◌, ◌==◌, [], IfOk, IfSome, drop, length};
 ghost use Rattle.stock.specs.Catalogues.{filed_in};
-ghost use Rattle.stock.specs.Filing.{filed_more, index_of, refiled, seen, unfiled, volume_of};
+ghost use Rattle.stock.specs.Filing.{filed_more, index_of, refiled, unfiled, volume_of};
+ghost use Rattle.std.specs.List.{list_any, position_from};
 
 use super::{Catalogue, Filed, Row, Volume};
 use std::alloc::{AllocError, Global};
 
-/// What is known of a label once the row at `index` is seen.
-fn seen(number: u32, known: Option<Volume>, index: usize, row: Filed) -> Option<Volume>
-    ensures { result ≡ seen number known index row }
+/// The first row with this number.
+fn first_row(rows: &[Filed], number: u32) -> Option<usize>
+    ensures value { result ≡ position_from (λ row. row.number == number) 0 rows.now }
+    ensures within { IfSome result (λ i. i < length rows.now) }
 {
-    if row.number == number {
-        match known {
-            None => Some(Volume::One(Row {
-                index,
-                place: row.place,
-            })),
-            Some(_) => Some(Volume::Several),
-        }
-    } else {
-        known
-    }
+    rows.iter().position(|row| row.number == number)
+}
+
+/// Whether a row from `from` on has this number.
+fn any_from(rows: &[Filed], from: usize, number: u32) -> bool
+    ensures { result ≡ list_any (λ row. row.number == number) (drop from rows.now) }
+{
+    rows.iter().skip(from).any(|row| row.number == number)
 }
 
 fn volume_in(rows: &[Filed], number: u32) -> Option<Volume>
     ensures { result ≡ volume_of rows.now number }
 {
-    let mut found = None;
-    for i in 0..rows.len() {
-        found = seen(number, found, i, rows[i]);
+    let index = first_row(rows, number)?;
+    if any_from(rows, index + 1, number) {
+        return Some(Volume::Several);
     }
-    found
+    let place = rows[index].place;
+    Some(Volume::One(Row { index, place }))
 }
 
 fn index_in(rows: &[Filed], place: u16) -> Option<usize>
     ensures { result ≡ index_of rows.now place }
 {
-    for i in 0..rows.len() {
-        if rows[i].place == place {
-            return Some(i);
-        }
-    }
-    None
+    rows.iter().position(|row| row.place == place)
 }
 
 impl Catalogue {

@@ -1,7 +1,7 @@
 //! What is asked of a stock, and what people do at its places.
 
 ghost use Rattle.std.specs.Prelude.{◌≡◌, ◌<◌, IfSome};
-ghost use Rattle.robot_moves.specs.Search.{is_drive, is_port, next_full_port, of_kind};
+ghost use Rattle.robot_moves.specs.Search.{is_kind, next_full_port, of_kind};
 ghost use Rattle.robots.specs.Acts.{put_answer, switch_answer, take_answer};
 ghost use Rattle.robots.specs.Meaning.{count};
 ghost use Rattle.stock.specs.Catalogues.{filed_in};
@@ -12,18 +12,16 @@ ghost use Rattle.stock.specs.Moves.{with_put, with_switched, with_taken};
 
 use super::Stock;
 use crate::catalogue::{Catalogue, Volume};
-use robot_moves::search::{is_drive, is_port, next_full_port};
+use robot_moves::search::{is_of, next_full_port};
 use robots::fault::Fault;
+use robots::kind::Kind;
 use robots::robot::{Questions, Robot};
 
 /// The number of the cartridge at p; 0 where there is none, or no such place.
 pub fn held<Q: Questions>(robot: &Q, p: u16) -> u32
     ensures { result ≡ held_in (Q.meaning robot.now) p }
 {
-    match robot.cartridge(p) {
-        Some(number) => number,
-        None => 0,
-    }
+    robot.cartridge(p).unwrap_or(0)
 }
 
 impl<R: Robot> Stock<R> {
@@ -40,16 +38,11 @@ impl<R: Robot> Stock<R> {
         self.robot.places()
     }
 
-    pub fn is_drive(&self, p: u16) -> bool
-        ensures { result ≡ of_kind is_drive (stock_of R.Questions.meaning self.now).robot p }
+    /// Whether there is a place p of this kind.
+    pub fn is_of(&self, kind: Kind, p: u16) -> bool
+        ensures { result ≡ of_kind (is_kind kind) (stock_of R.Questions.meaning self.now).robot p }
     {
-        is_drive(&self.robot, p)
-    }
-
-    pub fn is_port(&self, p: u16) -> bool
-        ensures { result ≡ of_kind is_port (stock_of R.Questions.meaning self.now).robot p }
-    {
-        is_port(&self.robot, p)
+        is_of(&self.robot, kind, p)
     }
 
     /// Where the label with this number is filed.

@@ -13,7 +13,8 @@ use crate::stock::lookups::held;
 use labels::UNREADABLE_NUMBER;
 use responses::Entry;
 use robot_moves::movement::{Stopped, Target, move_cartridge};
-use robot_moves::search::is_drive;
+use robot_moves::search::is_of;
+use robots::kind::Kind;
 use robots::robot::Robot;
 use statuses::Status;
 
@@ -44,10 +45,7 @@ pub(super) fn why_stopped(target: Target, why: Stopped) -> Refusal
 pub fn located(volume: Option<Volume>) -> Result<Row, Refusal>
     ensures { result ≡ located_by volume }
 {
-    let Some(volume) = volume else {
-        return Err(Refusal::NoVolume);
-    };
-    let Volume::One(row) = volume else {
+    let Volume::One(row) = volume.ok_or(Refusal::NoVolume)? else {
         return Err(Refusal::SeveralVolumes);
     };
     Ok(row)
@@ -65,16 +63,11 @@ impl<R: Robot> Stock<R> {
     fn cell_of(&self, number: u32) -> Result<Row, Refusal>
         ensures { result ≡ cell_of (stock_of R.Questions.meaning self.now) number }
     {
-        match located(self.catalogue.volume(number)) {
-            Ok(row) => {
-                if is_drive(&self.robot, row.place) {
-                    Err(Refusal::InDrive(row.place))
-                } else {
-                    Ok(row)
-                }
-            }
-            Err(why) => Err(why),
+        let row = located(self.catalogue.volume(number))?;
+        if is_of(&self.robot, Kind::Drive, row.place) {
+            return Err(Refusal::InDrive(row.place));
         }
+        Ok(row)
     }
 
     /// What was filed in the row, if there is one, is now at `to`; what went to the port is filed no more.
@@ -98,13 +91,10 @@ impl<R: Robot> Stock<R> {
         ensures answer { result ≡ (moved (stock_of R.Questions.meaning self.old) index from target).answer }
         ensures after { stock_of R.Questions.meaning self.new ≡ (moved (stock_of R.Questions.meaning self.old) index from target).stock }
     {
-        match move_cartridge(&mut self.robot, from, target) {
-            Ok(gone) => {
-                self.follow(index, target, gone.to);
-                Ok(entry_for(gone.cartridge, from, gone.to, Status::Success))
-            }
-            Err(why) => Err(why_stopped(target, why)),
-        }
+        let moved = move_cartridge(&mut self.robot, from, target);
+        let gone = moved.map_err(|why| why_stopped(target, why))?;
+        self.follow(index, target, gone.to);
+        Ok(entry_for(gone.cartridge, from, gone.to, Status::Success))
     }
 
     /// Mounts the label with this number on the drive.
@@ -112,15 +102,11 @@ impl<R: Robot> Stock<R> {
         ensures answer { result ≡ (mounted (stock_of R.Questions.meaning self.old) number drive).answer }
         ensures after { stock_of R.Questions.meaning self.new ≡ (mounted (stock_of R.Questions.meaning self.old) number drive).stock }
     {
-        match self.cell_of(number) {
-            Ok(row) => {
-                if held(&self.robot, drive) != 0 {
-                    return Err(Refusal::DriveInUse(drive));
-                }
-                self.move_filed(Some(row.index), row.place, Target::At(drive))
-            }
-            Err(why) => Err(why),
+        let row = self.cell_of(number)?;
+        if held(&self.robot, drive) != 0 {
+            return Err(Refusal::DriveInUse(drive));
         }
+        self.move_filed(Some(row.index), row.place, Target::At(drive))
     }
 
     /// Dismounts the drive; unforced, only the label with this number.
@@ -144,10 +130,8 @@ impl<R: Robot> Stock<R> {
         ensures answer { result ≡ (ejected (stock_of R.Questions.meaning self.old) number).answer }
         ensures after { stock_of R.Questions.meaning self.new ≡ (ejected (stock_of R.Questions.meaning self.old) number).stock }
     {
-        match self.cell_of(number) {
-            Ok(row) => self.move_filed(Some(row.index), row.place, Target::LowestPort),
-            Err(why) => Err(why),
-        }
+        let row = self.cell_of(number)?;
+        self.move_filed(Some(row.index), row.place, Target::LowestPort)
     }
 
     /// Enters the readable cartridge at p, unless its label is filed already.

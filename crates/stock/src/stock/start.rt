@@ -12,8 +12,10 @@ use crate::stock::lookups::held;
 use crate::stock::movements::why_stopped;
 use labels::UNREADABLE_NUMBER;
 use robot_moves::movement::{Target, empty_hand};
-use robot_moves::search::{is_port, port_count};
+use robot_moves::search::{is_of, port_count};
+use robots::kind::Kind;
 use robots::robot::{Questions, Robot};
+use std::array;
 
 /// Whether the number is that of a label.
 fn readable(number: u32) -> bool
@@ -35,18 +37,18 @@ fn fit<Q: Questions>(robot: &Q) -> bool
 fn shown<Q: Questions>(robot: &Q, p: u16) -> u32
     ensures { result ≡ shown_at (Q.meaning robot.now) p }
 {
-    if is_port(robot, p) { 0 } else { held(robot, p) }
+    if is_of(robot, Kind::Port, p) {
+        0
+    } else {
+        held(robot, p)
+    }
 }
 
 /// What cells and drives hold, for each of 256 places.
 fn inventory<Q: Questions>(robot: &Q) -> [u32; 256]
     ensures { result ≡ inventory_of (Q.meaning robot.now) }
 {
-    let mut places = [0u32; 256];
-    for p in 0..256u16 {
-        places[p as usize] = shown(robot, p);
-    }
-    places
+    array::from_fn(|p| shown(robot, p as u16))
 }
 
 impl<R: Robot> Stock<R> {
@@ -55,12 +57,8 @@ impl<R: Robot> Stock<R> {
         ensures answer { result ≡ (hand_cleared (stock_of R.Questions.meaning self.old)).answer }
         ensures after { stock_of R.Questions.meaning self.new ≡ (hand_cleared (stock_of R.Questions.meaning self.old)).stock }
     {
-        let n = self.robot.places();
-        let last = if n == 0 { 0 } else { n - 1 };
-        match empty_hand(&mut self.robot, last) {
-            Ok(()) => Ok(()),
-            Err(why) => Err(why_stopped(Target::NextCell, why)),
-        }
+        let last = self.robot.places().saturating_sub(1);
+        empty_hand(&mut self.robot, last).map_err(|why| why_stopped(Target::NextCell, why))
     }
 
     /// The taking step of a start.
