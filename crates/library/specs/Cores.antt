@@ -2,7 +2,6 @@
 use Rattle.std.specs.Prelude.{false, Some, None, Option}
 use Rattle.ring.specs.Queue.{records}
 use Rattle.robots.specs.Meaning.{Meaning}
-use Rattle.stock.specs.Models.{stock_of}
 use Rattle.library.specs.declared.cores.Work.{Work}
 use Rattle.library.specs.declared.cores.Core.{Core}
 use Rattle.library.specs.Library.{Job, Library}
@@ -15,9 +14,9 @@ work_of None = None
 work_of (Some w) = Some (job_of w)
 
 -- A core stands for a library whose door is shut.
-abbrev pub library_of : {R : Type 0} → (R → Meaning) → Core R → Library
-library_of meaning c = record {
-  stock = stock_of meaning c.stock;
+abbrev pub library_of : {R : Type 0} → Core R → Library
+library_of c = record {
+  stock = c.stock;
   state = c.state;
   drives = c.drives;
   work = work_of c.work;

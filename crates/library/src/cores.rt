@@ -4,6 +4,7 @@ use crate::state::State;
 use crate::turn::Progress;
 use requests::Request;
 use ring::Ring;
+use robots::robot::Robot;
 use stock::stock::Stock;
 
 pub mod acts;
@@ -17,7 +18,7 @@ pub struct Work {
 
 /// All that a library has, whether its door is open or shut.
 #[derive(Drop)]
-pub struct Core<'a, R> {
+pub struct Core<'a, R: Robot> {
     pub stock: Stock<R>,
     pub waiting: Ring<'a, Request>,
     pub messages: Ring<'a, Message>,

@@ -58,13 +58,13 @@ fn is_so(setting: DriveSetting, online: bool) -> bool
 }
 
 fn is_online<R: Robot>(core: &Core<R>, drive: u8) -> bool
-    ensures { result ≡ drive_online (library_of R.Questions.meaning core.now) drive }
+    ensures { result ≡ drive_online (library_of core.now) drive }
 {
     core.drives[usize::from(drive)].is_online()
 }
 
 fn check_cancel<R: Robot>(core: &Core<R>, target: u16) -> Result<(), NotReceived>
-    ensures { result_err result ≡ cancel_refusal (can_cancel (library_of R.Questions.meaning core.now) target) }
+    ensures { result_err result ≡ cancel_refusal (can_cancel (library_of core.now) target) }
 {
     if core.any_request(|q| cancels(target, q)) {
         Ok(())
@@ -74,7 +74,7 @@ fn check_cancel<R: Robot>(core: &Core<R>, target: u16) -> Result<(), NotReceived
 }
 
 fn check_drive<R: Robot>(core: &Core<R>, drive: u8) -> Result<(), NotReceived>
-    ensures { result_err result ≡ drive_refusal (drive_there (library_of R.Questions.meaning core.now) drive) (drive_online (library_of R.Questions.meaning core.now) drive) drive }
+    ensures { result_err result ≡ drive_refusal (drive_there (library_of core.now) drive) (drive_online (library_of core.now) drive) drive }
 {
     let place = u16::from(drive);
     if !core.stock.is_of(Kind::Drive, place) {
@@ -88,7 +88,7 @@ fn check_drive<R: Robot>(core: &Core<R>, drive: u8) -> Result<(), NotReceived>
 }
 
 fn check_vary<R: Robot>(core: &Core<R>, drive: u8, setting: DriveSetting) -> Result<(), NotReceived>
-    ensures { result_err result ≡ vary_refusal (drive_there (library_of R.Questions.meaning core.now) drive) (is_so setting (drive_online (library_of R.Questions.meaning core.now) drive)) drive }
+    ensures { result_err result ≡ vary_refusal (drive_there (library_of core.now) drive) (is_so setting (drive_online (library_of core.now) drive)) drive }
 {
     let place = u16::from(drive);
     if !core.stock.is_of(Kind::Drive, place) {
@@ -102,7 +102,7 @@ fn check_vary<R: Robot>(core: &Core<R>, drive: u8, setting: DriveSetting) -> Res
 }
 
 fn check_body<R: Robot>(core: &Core<R>, body: Body) -> Result<(), NotReceived>
-    ensures { result_err result ≡ body_refusal body (library_of R.Questions.meaning core.now) }
+    ensures { result_err result ≡ body_refusal body (library_of core.now) }
 {
     match body {
         Body::Cancel { target } => check_cancel(core, target),
@@ -116,7 +116,7 @@ fn check_body<R: Robot>(core: &Core<R>, body: Body) -> Result<(), NotReceived>
 
 /// Whether a request is refused, a full queue and a query's label aside.
 pub fn check<R: Robot>(core: &Core<R>, body: Body) -> Result<(), NotReceived>
-    ensures { result_err result ≡ refusal_of body (library_of R.Questions.meaning core.now) }
+    ensures { result_err result ≡ refusal_of body (library_of core.now) }
 {
     if !is_served(core.state, body) {
         return Err(NotReceived::NotServed(core.state));

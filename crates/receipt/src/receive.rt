@@ -70,8 +70,8 @@ fn queued_notice(body: Body) -> Option<Notice>
 
 /// Queues the request and acknowledges it, unless the queue is full.
 fn queue<R: Robot>(core: &mut Core<R>, request: Request) -> Answer
-    ensures answer { said_by result ≡ (queued request (library_of R.Questions.meaning core.old)).said }
-    ensures library { library_of R.Questions.meaning core.new ≡ (queued request (library_of R.Questions.meaning core.old)).library }
+    ensures answer { said_by result ≡ (queued request (library_of core.old)).said }
+    ensures library { library_of core.new ≡ (queued request (library_of core.old)).library }
 {
     match core.waiting.push(request) {
         Ok(()) => {
@@ -85,7 +85,7 @@ fn queue<R: Robot>(core: &mut Core<R>, request: Request) -> Answer
 
 /// Idle at once: every unmarked request is aborted, and idle is told with this number.
 pub fn force_idle<R: Robot>(core: &mut Core<R>, number: u16)
-    ensures { library_of R.Questions.meaning core.new ≡ with_forced number (library_of R.Questions.meaning core.old) }
+    ensures { library_of core.new ≡ with_forced number (library_of core.old) }
 {
     core.change_requests(aborted);
     core.state = State::Idle;
@@ -94,7 +94,7 @@ pub fn force_idle<R: Robot>(core: &mut Core<R>, number: u16)
 
 /// Marks the request with this number; it keeps its turn.
 fn cancel<R: Robot>(core: &mut Core<R>, target: u16)
-    ensures { library_of R.Questions.meaning core.new ≡ with_cancelled target (library_of R.Questions.meaning core.old) }
+    ensures { library_of core.new ≡ with_cancelled target (library_of core.old) }
 {
     core.change_requests(|q| cancelled(target, q));
 }
@@ -110,7 +110,7 @@ fn vary_event(setting: DriveSetting, named: bool) -> DriveEvent
 
 /// Varies the drive; while a waiting request names it, offline is pending.
 fn vary<R: Robot>(core: &mut Core<R>, drive: u8, setting: DriveSetting)
-    ensures { library_of R.Questions.meaning core.new ≡ with_varied drive setting (library_of R.Questions.meaning core.old) }
+    ensures { library_of core.new ≡ with_varied drive setting (library_of core.old) }
 {
     let named = core.is_named(drive);
     core.turn_drive(drive, vary_event(setting, named));
@@ -118,7 +118,7 @@ fn vary<R: Robot>(core: &mut Core<R>, drive: u8, setting: DriveSetting)
 
 /// The entry for a label that is asked for, at the place where it is filed.
 fn find<R: Robot>(core: &Core<R>, label: Label) -> Result<Entry, Refusal>
-    ensures { result ≡ found label (library_of R.Questions.meaning core.now) }
+    ensures { result ≡ found label (library_of core.now) }
 {
     let number = label.number();
     let row = located(core.stock.volume(number))?;
@@ -127,7 +127,7 @@ fn find<R: Robot>(core: &Core<R>, label: Label) -> Result<Entry, Refusal>
 
 /// Tells the state, or where a label is.
 fn query<R: Robot>(core: &Core<R>, label: Option<Label>) -> Verdict
-    ensures { verdict_of result ≡ queried label (library_of R.Questions.meaning core.now) }
+    ensures { verdict_of result ≡ queried label (library_of core.now) }
 {
     match label {
         None => Verdict::told(u8::from(core.state)),
@@ -137,8 +137,8 @@ fn query<R: Robot>(core: &Core<R>, label: Option<Label>) -> Verdict
 
 /// What an accepted request does.
 fn accept<R: Robot>(core: &mut Core<R>, request: Request) -> Answer
-    ensures answer { said_by result ≡ (accepted request.body request (library_of R.Questions.meaning core.old)).said }
-    ensures library { library_of R.Questions.meaning core.new ≡ (accepted request.body request (library_of R.Questions.meaning core.old)).library }
+    ensures answer { said_by result ≡ (accepted request.body request (library_of core.old)).said }
+    ensures library { library_of core.new ≡ (accepted request.body request (library_of core.old)).library }
 {
     match request.body {
         Body::Cancel { target } => {
@@ -160,8 +160,8 @@ fn accept<R: Robot>(core: &mut Core<R>, request: Request) -> Answer
 
 /// Answers a request as read: by an acknowledge where it is queued, else by a final.
 pub fn receive<R: Robot>(core: &mut Core<R>, request: Request) -> Answer
-    ensures answer { said_by result ≡ (received request (library_of R.Questions.meaning core.old)).said }
-    ensures library { library_of R.Questions.meaning core.new ≡ (received request (library_of R.Questions.meaning core.old)).library }
+    ensures answer { said_by result ≡ (received request (library_of core.old)).said }
+    ensures library { library_of core.new ≡ (received request (library_of core.old)).library }
 {
     match check(core, request.body) {
         Err(why) => refuse(request, why),

@@ -24,7 +24,7 @@ fn is_entering(work: &Option<Work>) -> bool
 
 /// Whether a hand reaches the place while the door is shut.
 fn reach<R: Robot>(core: &Core<R>, place: u16) -> Result<(), CallRefusal>
-    ensures { result_err result ≡ reach (library_of R.Questions.meaning core.now) place }
+    ensures { result_err result ≡ reach (library_of core.now) place }
 {
     if place >= core.stock.places() {
         return Err(CallRefusal::NoPlace);
@@ -41,7 +41,7 @@ fn reach<R: Robot>(core: &Core<R>, place: u16) -> Result<(), CallRefusal>
 
 /// Whether a hand reaches the place while the door is open: there has to be one.
 fn reach_inside<R: Robot>(core: &Core<R>, place: u16) -> Result<(), CallRefusal>
-    ensures { result_err result ≡ within_reach (with_door true (library_of R.Questions.meaning core.now)) place }
+    ensures { result_err result ≡ within_reach (with_door true (library_of core.now)) place }
 {
     if place < core.stock.places() {
         Ok(())
@@ -57,8 +57,8 @@ fn put_if<R: Robot>(
     place: u16,
     number: u32,
 ) -> Result<(), CallRefusal>
-    ensures answer { result ≡ (put_if (result_err within) (library_of R.Questions.meaning core.old) place number).answer }
-    ensures library { library_of R.Questions.meaning core.new ≡ (put_if (result_err within) (library_of R.Questions.meaning core.old) place number).library }
+    ensures answer { result ≡ (put_if (result_err within) (library_of core.old) place number).answer }
+    ensures library { library_of core.new ≡ (put_if (result_err within) (library_of core.old) place number).library }
 {
     within?;
     core.stock.put(place, number).map_err(why_not_put)
@@ -70,8 +70,8 @@ fn take_if<R: Robot>(
     core: &mut Core<R>,
     place: u16,
 ) -> Result<u32, CallRefusal>
-    ensures answer { result ≡ (take_if (result_err within) (library_of R.Questions.meaning core.old) place).answer }
-    ensures library { library_of R.Questions.meaning core.new ≡ (take_if (result_err within) (library_of R.Questions.meaning core.old) place).library }
+    ensures answer { result ≡ (take_if (result_err within) (library_of core.old) place).answer }
+    ensures library { library_of core.new ≡ (take_if (result_err within) (library_of core.old) place).library }
 {
     within?;
     core.stock.take(place).map_err(why_not_taken)
@@ -79,40 +79,40 @@ fn take_if<R: Robot>(
 
 /// Puts a cartridge into a port place.
 pub fn put<R: Robot>(core: &mut Core<R>, place: u16, number: u32) -> Result<(), CallRefusal>
-    ensures answer { result ≡ (put_call (library_of R.Questions.meaning core.old) place number).answer }
-    ensures library { library_of R.Questions.meaning core.new ≡ (put_call (library_of R.Questions.meaning core.old) place number).library }
+    ensures answer { result ≡ (put_call (library_of core.old) place number).answer }
+    ensures library { library_of core.new ≡ (put_call (library_of core.old) place number).library }
 {
     put_if(reach(core, place), core, place, number)
 }
 
 /// Takes the cartridge out of a port place.
 pub fn take<R: Robot>(core: &mut Core<R>, place: u16) -> Result<u32, CallRefusal>
-    ensures answer { result ≡ (take_call (library_of R.Questions.meaning core.old) place).answer }
-    ensures library { library_of R.Questions.meaning core.new ≡ (take_call (library_of R.Questions.meaning core.old) place).library }
+    ensures answer { result ≡ (take_call (library_of core.old) place).answer }
+    ensures library { library_of core.new ≡ (take_call (library_of core.old) place).library }
 {
     take_if(reach(core, place), core, place)
 }
 
 /// Puts a cartridge into any place, through the open door.
 pub fn put_inside<R: Robot>(core: &mut Core<R>, place: u16, number: u32) -> Result<(), CallRefusal>
-    ensures answer { result ≡ (put_through (with_door true (library_of R.Questions.meaning core.old)) place number).answer }
-    ensures library { with_door true (library_of R.Questions.meaning core.new) ≡ (put_through (with_door true (library_of R.Questions.meaning core.old)) place number).library }
+    ensures answer { result ≡ (put_through (with_door true (library_of core.old)) place number).answer }
+    ensures library { with_door true (library_of core.new) ≡ (put_through (with_door true (library_of core.old)) place number).library }
 {
     put_if(reach_inside(core, place), core, place, number)
 }
 
 /// Takes the cartridge out of any place, through the open door.
 pub fn take_inside<R: Robot>(core: &mut Core<R>, place: u16) -> Result<u32, CallRefusal>
-    ensures answer { result ≡ (take_through (with_door true (library_of R.Questions.meaning core.old)) place).answer }
-    ensures library { with_door true (library_of R.Questions.meaning core.new) ≡ (take_through (with_door true (library_of R.Questions.meaning core.old)) place).library }
+    ensures answer { result ≡ (take_through (with_door true (library_of core.old)) place).answer }
+    ensures library { with_door true (library_of core.new) ≡ (take_through (with_door true (library_of core.old)) place).library }
 {
     take_if(reach_inside(core, place), core, place)
 }
 
 /// Puts a place into service, or out of it.
 pub fn switch<R: Robot>(core: &mut Core<R>, place: u16, on: bool) -> Result<(), CallRefusal>
-    ensures answer { result ≡ (service_call (library_of R.Questions.meaning core.old) place on).answer }
-    ensures library { library_of R.Questions.meaning core.new ≡ (service_call (library_of R.Questions.meaning core.old) place on).library }
+    ensures answer { result ≡ (service_call (library_of core.old) place on).answer }
+    ensures library { library_of core.new ≡ (service_call (library_of core.old) place on).library }
 {
     core.stock
         .switch(place, on)

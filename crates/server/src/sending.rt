@@ -6,7 +6,6 @@ ghost use Rattle.receipt.specs.Accepting.{said_by};
 ghost use Rattle.responses.specs.Responses.{told};
 ghost use Rattle.responses.specs.Writing.{left};
 ghost use Rattle.server.specs.Answers.{acknowledge_told, bad_told, final_told, length_in, said_told};
-ghost use Rattle.stock.specs.Models.{stock_of};
 
 use library::cores::Core;
 use library::verdict::{Final, Tail};
@@ -59,8 +58,8 @@ fn send_acknowledge(request: Request, buffer: &mut [u8]) -> usize
 
 /// Writes a final; an inventory is asked of the robot now.
 pub fn send_final<R: Robot>(core: &Core<R>, ended: &Final, buffer: &mut [u8]) -> usize
-    ensures length { result ≡ length_in buffer.old (final_told (final_of ended.now) (stock_of R.Questions.meaning core.now.stock).robot) }
-    ensures after { buffer.new ≡ left (final_told (final_of ended.now) (stock_of R.Questions.meaning core.now.stock).robot) buffer.old }
+    ensures length { result ≡ length_in buffer.old (final_told (final_of ended.now) core.now.stock.robot) }
+    ensures after { buffer.new ≡ left (final_told (final_of ended.now) core.now.stock.robot) buffer.old }
     ensures bound { result ≤ 2048 }
 {
     let number = Some(ended.request.number);
@@ -94,8 +93,8 @@ pub fn send_final<R: Robot>(core: &Core<R>, ended: &Final, buffer: &mut [u8]) ->
 
 /// Writes what a received request is answered.
 pub fn send_answer<R: Robot>(core: &Core<R>, answer: &Answer, buffer: &mut [u8]) -> usize
-    ensures length { result ≡ length_in buffer.old (said_told (said_by answer.now) (stock_of R.Questions.meaning core.now.stock).robot) }
-    ensures after { buffer.new ≡ left (said_told (said_by answer.now) (stock_of R.Questions.meaning core.now.stock).robot) buffer.old }
+    ensures length { result ≡ length_in buffer.old (said_told (said_by answer.now) core.now.stock.robot) }
+    ensures after { buffer.new ≡ left (said_told (said_by answer.now) core.now.stock.robot) buffer.old }
     ensures bound { result ≤ 2048 }
 {
     match answer {

@@ -19,7 +19,7 @@ pub struct Serving<'a, R: Robot> {
 impl<'a, R: Robot> Model for Serving<'a, R> {
     ghost Value = { Library };
 
-    ghost view = { λ s. library_of R.Questions.meaning s.core };
+    ghost view = { λ s. library_of s.core };
 }
 
 /// A library whose door is open: hands reach every place, and no packet comes in.
@@ -31,5 +31,5 @@ pub(crate) struct Open<'a, R: Robot> {
 impl<'a, R: Robot> Model for Open<'a, R> {
     ghost Value = { Library };
 
-    ghost view = { λ s. with_door true (library_of R.Questions.meaning s.core) };
+    ghost view = { λ s. with_door true (library_of s.core) };
 }

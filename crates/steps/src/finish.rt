@@ -6,7 +6,6 @@ ghost use Rattle.library.specs.Finals.{final_in};
 ghost use Rattle.library.specs.Turns.{course_of};
 ghost use Rattle.ring.specs.Queue.{records};
 ghost use Rattle.steps.specs.Stepping.{closing_notice, drive_answered, drive_answered_at, finished};
-ghost use Rattle.stock.specs.Models.{stock_of};
 ghost use Rattle.std.specs.Prelude.{◌≡◌};
 
 use library::cores::{Core, Work};
@@ -19,7 +18,7 @@ use robots::robot::Robot;
 
 /// Tells the drive that a request which names it is answered.
 fn tell_drive<R: Robot>(core: &mut Core<R>, drive: u8)
-    ensures { library_of R.Questions.meaning core.new ≡ with_drives (drive_answered_at drive (records core.old.waiting) core.old.drives) (library_of R.Questions.meaning core.old) }
+    ensures { library_of core.new ≡ with_drives (drive_answered_at drive (records core.old.waiting) core.old.drives) (library_of core.old) }
 {
     let named = core.is_named(drive);
     core.turn_drive(drive, DriveEvent::Answered(named));
@@ -27,7 +26,7 @@ fn tell_drive<R: Robot>(core: &mut Core<R>, drive: u8)
 
 /// Tells the drive that an answered mount or dismount names.
 fn answer_drive<R: Robot>(core: &mut Core<R>, body: Body)
-    ensures { library_of R.Questions.meaning core.new ≡ with_drives (drive_answered body (records core.old.waiting) core.old.drives) (library_of R.Questions.meaning core.old) }
+    ensures { library_of core.new ≡ with_drives (drive_answered body (records core.old.waiting) core.old.drives) (library_of core.old) }
 {
     match body {
         Body::Mount { drive, .. } | Body::Dismount { drive, .. } => tell_drive(core, drive),
@@ -37,7 +36,7 @@ fn answer_drive<R: Robot>(core: &mut Core<R>, body: Body)
 
 /// A final of an enter asks for what is left in the port to be removed.
 fn closing_notice<R: Robot>(core: &Core<R>, body: Body, notice: Option<Notice>) -> Option<Notice>
-    ensures { result ≡ closing_notice body (stock_of R.Questions.meaning core.now.stock).robot notice }
+    ensures { result ≡ closing_notice body core.now.stock.robot notice }
 {
     match body {
         Body::Enter => core.stock.full_port(0).map(|_| Notice::Remove),
@@ -47,8 +46,8 @@ fn closing_notice<R: Robot>(core: &Core<R>, body: Body, notice: Option<Notice>) 
 
 /// The request stays at work, or is answered.
 pub fn finish<R: Robot>(core: &mut Core<R>, request: Request, turn: Turn) -> Option<Final>
-    ensures answer { final_in result ≡ (finished (library_of R.Questions.meaning core.old) (records core.old.waiting) request (record { stock = stock_of R.Questions.meaning core.old.stock; course = course_of turn })).final }
-    ensures library { library_of R.Questions.meaning core.new ≡ (finished (library_of R.Questions.meaning core.old) (records core.old.waiting) request (record { stock = stock_of R.Questions.meaning core.old.stock; course = course_of turn })).library }
+    ensures answer { final_in result ≡ (finished (library_of core.old) (records core.old.waiting) request (record { stock = core.old.stock; course = course_of turn })).final }
+    ensures library { library_of core.new ≡ (finished (library_of core.old) (records core.old.waiting) request (record { stock = core.old.stock; course = course_of turn })).library }
 {
     let Turn {
         state,

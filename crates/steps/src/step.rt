@@ -7,7 +7,6 @@ ghost use Rattle.ring.specs.Queue.{records};
 ghost use Rattle.std.specs.Prelude.{◌≡◌, [], Some, None};
 ghost use Rattle.steps.specs.Stepping.{stepped, stepped_by};
 ghost use Rattle.steps.specs.Turning.{continued, taken};
-ghost use Rattle.stock.specs.Models.{stock_of};
 
 use crate::finish::finish;
 use crate::marked::end_marked;
@@ -24,8 +23,8 @@ use stock::stock::Stock;
 
 /// A request at its turn; a marked one ends.
 fn take<R: Robot>(stock: &mut Stock<R>, state: State, request: Request) -> Turn
-    ensures turn { course_of result ≡ (taken request.mark request.body (stock_of R.Questions.meaning stock.old) state).course }
-    ensures stock { stock_of R.Questions.meaning stock.new ≡ (taken request.mark request.body (stock_of R.Questions.meaning stock.old) state).stock }
+    ensures turn { course_of result ≡ (taken request.mark request.body stock.old state).course }
+    ensures stock { stock.new ≡ (taken request.mark request.body stock.old state).stock }
 {
     match request.mark {
         Mark::Unmarked => begin(stock, state, request.body),
@@ -47,8 +46,8 @@ fn go_on_with<R: Robot>(
     request: Request,
     progress: Progress,
 ) -> Turn
-    ensures turn { course_of result ≡ (continued request.mark request.body (stock_of R.Questions.meaning stock.old) state progress.next progress.entries).course }
-    ensures stock { stock_of R.Questions.meaning stock.new ≡ (continued request.mark request.body (stock_of R.Questions.meaning stock.old) state progress.next progress.entries).stock }
+    ensures turn { course_of result ≡ (continued request.mark request.body stock.old state progress.next progress.entries).course }
+    ensures stock { stock.new ≡ (continued request.mark request.body stock.old state progress.next progress.entries).stock }
 {
     match request.mark {
         Mark::Unmarked => go_on(stock, state, request.body, progress),
@@ -71,8 +70,8 @@ fn go_on_with<R: Robot>(
 
 /// Takes the oldest request that waits, if there is one.
 fn take_oldest<R: Robot>(core: &mut Core<R>) -> Option<Final>
-    ensures answer { final_in result ≡ (stepped_by None (records core.old.waiting) (library_of R.Questions.meaning core.old)).final }
-    ensures library { library_of R.Questions.meaning core.new ≡ (stepped_by None (records core.old.waiting) (library_of R.Questions.meaning core.old)).library }
+    ensures answer { final_in result ≡ (stepped_by None (records core.old.waiting) (library_of core.old)).final }
+    ensures library { library_of core.new ≡ (stepped_by None (records core.old.waiting) (library_of core.old)).library }
 {
     let request = core.waiting.pop()?;
     let turn = take(&mut core.stock, core.state, request);
@@ -81,8 +80,8 @@ fn take_oldest<R: Robot>(core: &mut Core<R>) -> Option<Final>
 
 /// One step: goes on with the request at work, or takes the oldest. It answers where that ends a request.
 pub fn step<R: Robot>(core: &mut Core<R>) -> Option<Final>
-    ensures answer { final_in result ≡ (stepped (library_of R.Questions.meaning core.old)).final }
-    ensures library { library_of R.Questions.meaning core.new ≡ (stepped (library_of R.Questions.meaning core.old)).library }
+    ensures answer { final_in result ≡ (stepped (library_of core.old)).final }
+    ensures library { library_of core.new ≡ (stepped (library_of core.old)).library }
 {
     match core.work.take() {
         Some(work) => {

@@ -4,7 +4,6 @@ ghost use Rattle.labels.specs.Numbers.{number_of};
 ghost use Rattle.library.specs.Turns.{course_of, going_of};
 ghost use Rattle.robot_moves.specs.Search.{next_full_port};
 ghost use Rattle.steps.specs.Turning.{begun, ended_at_once, enter_on, entering, gone_on, idling, quietly, start_on, start_taken};
-ghost use Rattle.stock.specs.Models.{stock_of};
 ghost use Rattle.stock.specs.Starts.{begun as startBegun};
 ghost use Rattle.std.specs.Prelude.{◌≡◌};
 
@@ -60,8 +59,8 @@ fn become_idle() -> Turn
 
 /// An enter treats the next full port place, or ends where none is left.
 fn go_on_entering<R: Robot>(stock: &mut Stock<R>, state: State, progress: Progress) -> Turn
-    ensures turn { course_of result ≡ (enter_on (next_full_port (stock_of R.Questions.meaning stock.old).robot progress.next) (stock_of R.Questions.meaning stock.old) state progress.entries).course }
-    ensures stock { stock_of R.Questions.meaning stock.new ≡ (enter_on (next_full_port (stock_of R.Questions.meaning stock.old).robot progress.next) (stock_of R.Questions.meaning stock.old) state progress.entries).stock }
+    ensures turn { course_of result ≡ (enter_on (next_full_port stock.old.robot progress.next) stock.old state progress.entries).course }
+    ensures stock { stock.new ≡ (enter_on (next_full_port stock.old.robot progress.next) stock.old state progress.entries).stock }
 {
     let Progress { next, entries } = progress;
     let Some(place) = stock.full_port(next) else {
@@ -77,8 +76,8 @@ fn go_on_entering<R: Robot>(stock: &mut Stock<R>, state: State, progress: Progre
 
 /// The taking step of a start refuses a bad make-up, empties the catalogue, and sets down what the hand holds.
 fn take_start<R: Robot>(stock: &mut Stock<R>, state: State) -> Turn
-    ensures turn { course_of result ≡ (start_taken (startBegun (stock_of R.Questions.meaning stock.old)) state).course }
-    ensures stock { stock_of R.Questions.meaning stock.new ≡ (start_taken (startBegun (stock_of R.Questions.meaning stock.old)) state).stock }
+    ensures turn { course_of result ≡ (start_taken (startBegun stock.old) state).course }
+    ensures stock { stock.new ≡ (start_taken (startBegun stock.old) state).stock }
 {
     match stock.begin() {
         Ok(()) => quiet(state, Goes::Stays(Progress::start())),
@@ -91,8 +90,8 @@ fn take_start<R: Robot>(stock: &mut Stock<R>, state: State) -> Turn
 
 /// A start reads one place; the last one ends it.
 fn go_on_reading<R: Robot>(stock: &mut Stock<R>, state: State, progress: Progress) -> Turn
-    ensures turn { course_of result ≡ (start_on (stock_of R.Questions.meaning stock.old) state progress.next progress.entries).course }
-    ensures stock { stock_of R.Questions.meaning stock.new ≡ (start_on (stock_of R.Questions.meaning stock.old) state progress.next progress.entries).stock }
+    ensures turn { course_of result ≡ (start_on stock.old state progress.next progress.entries).course }
+    ensures stock { stock.new ≡ (start_on stock.old state progress.next progress.entries).stock }
 {
     let Progress { next, entries } = progress;
     stock.read(next);
@@ -109,8 +108,8 @@ fn go_on_reading<R: Robot>(stock: &mut Stock<R>, state: State, progress: Progres
 
 /// The taking step.
 pub fn begin<R: Robot>(stock: &mut Stock<R>, state: State, body: Body) -> Turn
-    ensures turn { course_of result ≡ (begun body (stock_of R.Questions.meaning stock.old) state).course }
-    ensures stock { stock_of R.Questions.meaning stock.new ≡ (begun body (stock_of R.Questions.meaning stock.old) state).stock }
+    ensures turn { course_of result ≡ (begun body stock.old state).course }
+    ensures stock { stock.new ≡ (begun body stock.old state).stock }
 {
     match body {
         Body::Mount { label, drive } => {
@@ -138,8 +137,8 @@ pub fn begin<R: Robot>(stock: &mut Stock<R>, state: State, body: Body) -> Turn
 
 /// A later step.
 pub fn go_on<R: Robot>(stock: &mut Stock<R>, state: State, body: Body, progress: Progress) -> Turn
-    ensures turn { course_of result ≡ (gone_on body (stock_of R.Questions.meaning stock.old) state progress.next progress.entries).course }
-    ensures stock { stock_of R.Questions.meaning stock.new ≡ (gone_on body (stock_of R.Questions.meaning stock.old) state progress.next progress.entries).stock }
+    ensures turn { course_of result ≡ (gone_on body stock.old state progress.next progress.entries).course }
+    ensures stock { stock.new ≡ (gone_on body stock.old state progress.next progress.entries).stock }
 {
     match body {
         Body::Enter => go_on_entering(stock, state, progress),

@@ -1,4 +1,7 @@
-ghost use Rattle.std.specs.Prelude.{◌≤◌, vec_capacity};
+ghost use Rattle.std.specs.Prelude.{◌≤◌, List, vec_capacity, vec_items};
+ghost use Rattle.stock.specs.declared.catalogue.Filed.{Filed};
+
+use std::marker::Model;
 
 pub mod acts;
 
@@ -28,5 +31,13 @@ pub enum Volume {
 #[derive(Drop)]
 pub struct Catalogue {
     rows: Vec<Filed>,
-    ghost room: { 256 ≤ vec_capacity rows },
+}
+
+/// Clauses see the list of what is filed.
+impl Model for Catalogue {
+    ghost Value = { List Filed };
+
+    ghost view = { λ c. vec_items c.rows };
+
+    ghost invariant = { λ c. 256 ≤ vec_capacity c.rows };
 }

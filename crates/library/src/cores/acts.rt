@@ -7,7 +7,6 @@ ghost use Rattle.library.specs.Posting.{with_posted};
 ghost use Rattle.requests.specs.declared.bodies.Request.{Request};
 ghost use Rattle.ring.specs.Order.{any_of};
 ghost use Rattle.ring.specs.Queue.{Answers, records};
-ghost use Rattle.stock.specs.Models.{stock_of};
 ghost use Rattle.std.specs.Prelude.{◌≡◌, Bool, ◌||◌, length};
 
 use super::Core;
@@ -28,7 +27,7 @@ impl<'a, R: Robot> Core<'a, R> {
         waiting: &'a mut [Request],
         messages: &'a mut [Message],
     ) -> Core<'a, R>
-        ensures { library_of R.Questions.meaning result ≡ fresh (stock_of R.Questions.meaning stock) (length waiting.old) (length messages.old) }
+        ensures { library_of result ≡ fresh stock (length waiting.old) (length messages.old) }
     {
         let waiting = Ring::new(waiting, REQUEST_SLOTS);
         let messages = Ring::new(messages, MESSAGE_SLOTS);
@@ -45,7 +44,7 @@ impl<'a, R: Robot> Core<'a, R> {
 
     /// Posts a message to the operator, if there is one; where the queue is full it is dropped and counted.
     pub fn post(&mut self, notice: Option<Notice>, number: u16)
-        ensures { library_of R.Questions.meaning self.new ≡ with_posted notice number (library_of R.Questions.meaning self.old) }
+        ensures { library_of self.new ≡ with_posted notice number (library_of self.old) }
     {
         let Some(notice) = notice else {
             return;
@@ -68,7 +67,7 @@ impl<'a, R: Robot> Core<'a, R> {
 
     /// Tells a drive what happens to it.
     pub fn turn_drive(&mut self, drive: u8, event: DriveEvent)
-        ensures { library_of R.Questions.meaning self.new ≡ with_drives (drive_told self.old.drives drive event) (library_of R.Questions.meaning self.old) }
+        ensures { library_of self.new ≡ with_drives (drive_told self.old.drives drive event) (library_of self.old) }
     {
         self.drives[usize::from(drive)].turn(event);
     }
@@ -89,7 +88,7 @@ impl<'a, R: Robot> Core<'a, R> {
     /// Changes each request, waiting or at work.
     pub fn change_requests<F: Fn(Request) -> Request>(&mut self, change: F)
         requires { F.IsAlwaysCallable change }
-        ensures { (f : Request → Request) → Answers (F.post change) f → library_of R.Questions.meaning self.new ≡ with_requests f (library_of R.Questions.meaning self.old) }
+        ensures { (f : Request → Request) → Answers (F.post change) f → library_of self.new ≡ with_requests f (library_of self.old) }
     {
         self.waiting.each(&change);
         if let Some(work) = &mut self.work {

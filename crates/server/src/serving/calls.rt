@@ -34,7 +34,7 @@ fn number_in(read: &Result<Request, BadPacket>) -> Option<u16>
 
 /// Whether the number is one waiting or at work.
 fn is_used<R: Robot>(core: &Core<R>, number: Option<u16>) -> bool
-    ensures { result ≡ used_by (library_of R.Questions.meaning core.now) number }
+    ensures { result ≡ used_by (library_of core.now) number }
 {
     match number {
         Some(number) => core.any_request(|q| q.number == number),

@@ -1,5 +1,4 @@
 ghost use Rattle.std.specs.Prelude.{◌≡◌, ◌+◌, ◌<◌, ◌==◌, [], IfOk, IfSome, drop, length};
-ghost use Rattle.stock.specs.Catalogues.{filed_in};
 ghost use Rattle.stock.specs.Filing.{filed_more, index_of, refiled, unfiled, volume_of};
 ghost use Rattle.std.specs.List.{list_any, position_from};
 
@@ -41,7 +40,7 @@ fn index_in(rows: &[Filed], place: u16) -> Option<usize>
 impl Catalogue {
     /// An empty catalogue; the only call of it that can want memory.
     pub fn new(heap: Global) -> Result<Catalogue, AllocError>
-        ensures { IfOk result (λ c. filed_in c ≡ []) }
+        ensures { IfOk result (λ c. c ≡ []) }
     {
         let rows = Vec::with_capacity(heap, 256)?;
         Ok(Catalogue { rows })
@@ -49,21 +48,21 @@ impl Catalogue {
 
     /// Where the cartridge of this number is filed, if it is.
     pub fn volume(&self, number: u32) -> Option<Volume>
-        ensures { result ≡ volume_of (filed_in self.now) number }
+        ensures { result ≡ volume_of self.now number }
     {
         volume_in(&self.rows, number)
     }
 
     /// The row that names the place, if there is one.
     pub fn row_of(&self, place: u16) -> Option<usize>
-        ensures { result ≡ index_of (filed_in self.now) place }
+        ensures { result ≡ index_of self.now place }
     {
         index_in(&self.rows, place)
     }
 
     /// What a row has is now at `to`.
     pub fn refile(&mut self, index: usize, to: u16)
-        ensures { filed_in self.new ≡ refiled index to (filed_in self.old) }
+        ensures { self.new ≡ refiled index to self.old }
     {
         if index < self.rows.len() {
             self.rows[index].place = to;
@@ -72,7 +71,7 @@ impl Catalogue {
 
     /// What a row has is filed no more.
     pub fn unfile(&mut self, index: usize)
-        ensures { filed_in self.new ≡ unfiled index (filed_in self.old) }
+        ensures { self.new ≡ unfiled index self.old }
     {
         if index < self.rows.len() {
             let _ = self.rows.remove(index);
@@ -81,7 +80,7 @@ impl Catalogue {
 
     /// Files a cartridge, if there is room.
     pub fn file(&mut self, number: u32, place: u16)
-        ensures { filed_in self.new ≡ filed_more (record { number = number; place = place }) (filed_in self.old) }
+        ensures { self.new ≡ filed_more (record { number = number; place = place }) self.old }
     {
         if self.rows.len() < 256 {
             let _ = self.rows.push(Filed { number, place });
@@ -90,7 +89,7 @@ impl Catalogue {
 
     /// Files nothing any more.
     pub fn clear(&mut self)
-        ensures { filed_in self.new ≡ [] }
+        ensures { self.new ≡ [] }
     {
         self.rows.clear();
     }

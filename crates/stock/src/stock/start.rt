@@ -2,7 +2,6 @@
 
 ghost use Rattle.robots.specs.Meaning.{count};
 ghost use Rattle.stock.specs.Holding.{inventory_of, readable, shown_at};
-ghost use Rattle.stock.specs.Models.{stock_of};
 ghost use Rattle.stock.specs.Starts.{begun, fit, hand_cleared, read_at};
 ghost use Rattle.std.specs.Prelude.{◌≡◌};
 
@@ -54,8 +53,8 @@ fn inventory<Q: Questions>(robot: &Q) -> [u32; 256]
 impl<R: Robot> Stock<R> {
     /// Sets what the hand holds into the next free cell from the last place.
     fn clear_hand(&mut self) -> Result<(), Refusal>
-        ensures answer { result ≡ (hand_cleared (stock_of R.Questions.meaning self.old)).answer }
-        ensures after { stock_of R.Questions.meaning self.new ≡ (hand_cleared (stock_of R.Questions.meaning self.old)).stock }
+        ensures answer { result ≡ (hand_cleared self.old).answer }
+        ensures after { self.new ≡ (hand_cleared self.old).stock }
     {
         let last = self.robot.places().saturating_sub(1);
         empty_hand(&mut self.robot, last).map_err(|why| why_stopped(Target::NextCell, why))
@@ -63,8 +62,8 @@ impl<R: Robot> Stock<R> {
 
     /// The taking step of a start.
     pub fn begin(&mut self) -> Result<(), Refusal>
-        ensures answer { result ≡ (begun (stock_of R.Questions.meaning self.old)).answer }
-        ensures after { stock_of R.Questions.meaning self.new ≡ (begun (stock_of R.Questions.meaning self.old)).stock }
+        ensures answer { result ≡ (begun self.old).answer }
+        ensures after { self.new ≡ (begun self.old).stock }
     {
         if !fit(&self.robot) {
             return Err(Refusal::BadMakeUp);
@@ -75,7 +74,7 @@ impl<R: Robot> Stock<R> {
 
     /// A start reads the place p: a label in a cell or drive is filed.
     pub fn read(&mut self, p: u16)
-        ensures { stock_of R.Questions.meaning self.new ≡ read_at (stock_of R.Questions.meaning self.old) p }
+        ensures { self.new ≡ read_at self.old p }
     {
         let number = shown(&self.robot, p);
         if readable(number) {
@@ -85,7 +84,7 @@ impl<R: Robot> Stock<R> {
 
     /// What cells and drives hold, for each of 256 places.
     pub fn inventory(&self) -> [u32; 256]
-        ensures { result ≡ inventory_of (stock_of R.Questions.meaning self.now).robot }
+        ensures { result ≡ inventory_of self.now.robot }
     {
         inventory(&self.robot)
     }
