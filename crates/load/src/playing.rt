@@ -30,7 +30,7 @@ const UNMADE: Outcome = Outcome {
 
 /// A server that a script is played to, its buffer, and the tally of what it told.
 #[derive(Drop)]
-struct Player<'a, R> {
+struct Player<'a, R: Robot> {
     library: Serving<'a, R>,
     buffer: [u8; 2048],
     tally: Tally,
