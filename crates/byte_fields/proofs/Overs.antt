@@ -1,17 +1,10 @@
 -- What one write after another leaves in a buffer.
-use Rattle.std.proofs.Common.{◌≡◌, ℕ, ◌+◌, ◌-◌, ◌≤◌, List, [], ◌++◌, length, take, drop, Some, None, Option, sym, ap, ◌∙◌, subst, append_assoc, add-zero, zero-add, arith, length-append, take-append-drop, length-take-le, drop-drop}
-use borrow.Rule.Slice.PartMut.{put_mid}
+use Rattle.std.proofs.Common.{◌≡◌, ℕ, ◌+◌, ◌≤◌, List, [], ◌++◌, length, take, drop, Some, None, Option, sym, ap, ◌∙◌, subst, append_assoc, add-zero, zero-add, arith, length-append, take-append-drop, length-take-le, drop-drop}
 use Rattle.std.proofs.lemmas.List.{take_at, drop_at}
 use Rattle.byte_fields.specs.Putting.{over, Wrote, one_bytes, two_bytes}
 
 pub over_none : (at : ℕ) (xs : List ℕ) → over at [] xs ≡ xs
 over_none at xs = rw (add-zero, take-append-drop)
-
--- What a copy into a part of the buffer leaves.
-pub put_over : (at : ℕ) (xs ys zs : List ℕ) → zs ≡ ys → put_mid at (at + length ys - at) xs zs ≡ over at ys xs
-put_over at xs ys zs e =
-    let n : at + length ys - at ≡ length ys = omega arith in
-    rw (e, n, drop-drop)
 
 length_over : (at : ℕ) (a xs : List ℕ) → at ≤ length xs → length (take at xs ++ a) ≡ at + length a
 length_over at a xs h = rw (length-append (take at xs) a, length-take-le at xs h)
