@@ -1,7 +1,9 @@
 -- What one write after another leaves in a buffer.
-use Rattle.std.proofs.Common.{◌≡◌, ℕ, ◌+◌, ◌≤◌, List, [], ◌++◌, length, take, drop, Some, None, Option, sym, ap, ◌∙◌, subst, append_assoc, add-zero, zero-add, arith, length-append, take-append-drop, length-take-le, drop-drop}
+use Rattle.std.proofs.Common.{◌≡◌, ℕ, ◌+◌, ◌≤◌, List, [], ◌++◌, length, take, drop, Some, None, Option, sym, ap, ◌∙◌, subst, append_assoc, add-zero, zero-add, arith, length-append, take-append-drop, length-take-le, length-drop, drop-drop}
 use Rattle.std.proofs.lemmas.List.{take_at, drop_at}
+use Rattle.byte_fields.specs.declared.putting.Writer.{Writer}
 use Rattle.byte_fields.specs.Putting.{over, Wrote, one_bytes, two_bytes}
+use Rattle.byte_fields.specs.Writers.{Put}
 
 pub over_none : (at : ℕ) (xs : List ℕ) → over at [] xs ≡ xs
 over_none at xs = rw (add-zero, take-append-drop)
@@ -46,3 +48,20 @@ one_width (Some b) = omega arith
 pub two_width : (o : Option ℕ) → length (two_bytes o) ≤ 2
 two_width None = omega arith
 two_width (Some n) = omega arith
+
+same_length : (at : ℕ) (a xs : List ℕ) → at + length a ≤ length xs → length (over at a xs) ≡ length xs
+same_length at a xs h =
+    let t = length-take-le at xs (omega arith) in
+    let d = length-drop (at + length a) xs in
+    simp length-append (omega arith)
+
+-- A writer that has written nothing yet.
+pub wrote_new : {xs ys : List ℕ} {n : ℕ} → ys ≡ xs → n ≡ 0 → Wrote 0 [] xs ys n
+wrote_new {xs} {ys} {n} e z = record { bytes = e; end = z }
+
+-- What a writer has written from the place at on, and then more behind it.
+pub put_behind : {at : ℕ} {a b xs : List ℕ} {v w : Writer} → Wrote at a xs v.buffer.now v.at → v.at + length b ≤ length xs → Put b v w → Wrote at (a ++ b) xs w.buffer.now w.at
+put_behind {at} {a} {b} {xs} {v} {w} e h p =
+    let n = e.end in
+    let l : length v.buffer.now ≡ length xs = ap (λ (l : List ℕ). length l) e.bytes ∙ same_length at a xs (omega arith) in
+    wrote_then (omega arith) e (p.wrote (omega arith))

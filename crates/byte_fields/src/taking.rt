@@ -12,11 +12,11 @@ pub fn has(map: u8, worth: u8) -> bool
     worth != 0 && map / worth % 2 == 1
 }
 
-/// The field, if it is there, and the bytes behind it.
-pub fn take<F: Field>(there: bool, bytes: &[u8]) -> Option<(Option<F>, &[u8])>
-    ensures { seen result ≡ F.off there bytes.now }
+/// The field whose bit is worth `worth`, if it stands in the map, and the bytes behind it.
+pub fn take<F: Field>(map: u8, worth: u8, bytes: &[u8]) -> Option<(Option<F>, &[u8])>
+    ensures { seen result ≡ F.off (has_bit map worth) bytes.now }
 {
-    if !there {
+    if !has(map, worth) {
         return Some((None, bytes));
     }
     let (field, rest) = F::cut(bytes)?;

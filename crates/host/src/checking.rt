@@ -26,7 +26,7 @@ fn tell(outline: Outline) -> Checked
 {
     let (status, detail) = match outline.fault {
         Ok(()) => (Status::Success, None),
-        Err(cause) => (cause.status(), cause.detail()),
+        Err(cause) => (Status::from(cause), cause.detail()),
     };
     Checked {
         status: status.code(),

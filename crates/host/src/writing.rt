@@ -25,7 +25,7 @@ fn tell(res: Result<usize, Unwritable>) -> Written
             length,
         },
         Err(cause) => Written {
-            status: cause.status().code(),
+            status: Status::from(cause).code(),
             length: 0,
         },
     }

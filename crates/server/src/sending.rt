@@ -38,7 +38,7 @@ pub fn send_bad_packet(bad: BadPacket, buffer: &mut [u8]) -> usize
         bad.number,
         bad.command,
         ResponseKind::Final,
-        bad.cause.status(),
+        Status::from(bad.cause),
         bad.cause.detail(),
     );
     send(&response, buffer)
@@ -49,7 +49,7 @@ fn send_acknowledge(request: Request, buffer: &mut [u8]) -> usize
     ensures after { buffer.new ≡ left (acknowledge_told request) buffer.old }
     ensures bound { result ≤ 2048 }
 {
-    let command = request.body.command().code();
+    let command = u8::from(request.body.command());
     let response = Response::plain(
         Some(request.number),
         Some(command),
@@ -67,7 +67,7 @@ pub fn send_final<R: Robot>(core: &Core<R>, ended: Final, buffer: &mut [u8]) -> 
     ensures bound { result ≤ 2048 }
 {
     let number = Some(ended.request.number);
-    let command = Some(ended.request.body.command().code());
+    let command = Some(u8::from(ended.request.body.command()));
     let status = ended.verdict.status;
     let detail = ended.verdict.detail;
     match ended.verdict.tail {

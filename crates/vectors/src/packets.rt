@@ -10,7 +10,7 @@ const MOUNT: [u8; 12] = [
 fn status_of(packet: &[u8]) -> u8 {
     match read(packet) {
         Ok(_) => 0,
-        Err(bad) => bad.cause.status().code(),
+        Err(bad) => Status::from(bad.cause).code(),
     }
 }
 
