@@ -1,5 +1,5 @@
 -- Bytes put behind what a writer has written.
-use Rattle.std.specs.Prelude.{◌≡◌, ℕ, ◌+◌, ◌<◌, ◌≤◌, List, length, Some, None, Ok, Err, Option, Result}
+use Rattle.std.specs.Prelude.{◌≡◌, ℕ, ◌+◌, ◌<◌, ◌≤◌, List, length}
 use Rattle.byte_fields.specs.declared.putting.Writer.{Writer}
 use Rattle.byte_fields.specs.Putting.{Wrote}
 
@@ -9,7 +9,7 @@ pub record Put (bs : List ℕ) (v w : Writer) : Type 0 where
   pub wrote : v.at + length bs ≤ length v.buffer.now → Wrote v.at bs v.buffer.now w.buffer.now w.at
   pub full : length v.buffer.now < v.at + length bs → (w.buffer.now ≡ v.buffer.now) × (w.at ≡ v.at)
 
--- All is well unless there is a reason against it.
-abbrev pub ok_unless : {E : Type 0} → Option E → Result (Unit {0}) E
-ok_unless None = Ok tt
-ok_unless (Some e) = Err e
+-- The same where there is room for the bytes.
+pub record Added (bs : List ℕ) (v w : Writer) : Type 0 where
+  pub same : w.buffer.ghost_name ≡ v.buffer.ghost_name
+  pub wrote : Wrote v.at bs v.buffer.now w.buffer.now w.at

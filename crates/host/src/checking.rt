@@ -9,7 +9,7 @@ use statuses::Status;
 
 /// What C is told of a packet. A value that is not there is 0. The order of the fields leaves no
 /// gap between them, so that the record is returned in one register.
-#[derive(Clone, Copy)]
+#[derive(Clone, Copy, PartialEq, Eq, Debug)]
 #[repr(C)]
 pub struct Checked {
     pub status: u8,
