@@ -9,7 +9,7 @@ use statuses::Status;
 
 /// What C is told of a packet. A value that is not there is 0. The order of the fields leaves no
 /// gap between them, so that the record is returned in one register.
-#[derive(Clone, Copy)]
+#[derive(Clone, Copy, PartialEq, Eq, Debug)]
 #[repr(C)]
 pub struct Checked {
     pub status: u8,
@@ -26,7 +26,7 @@ fn tell(outline: Outline) -> Checked
 {
     let (status, detail) = match outline.fault {
         Ok(()) => (Status::Success, None),
-        Err(cause) => (cause.status(), cause.detail()),
+        Err(cause) => (Status::from(cause), cause.detail()),
     };
     Checked {
         status: u8::from(status),

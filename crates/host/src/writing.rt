@@ -9,7 +9,7 @@ use requests::{Unwritable, Values, write};
 use statuses::Status;
 
 /// What C is told of a packet that was to be written; the length is 0 where it was not.
-#[derive(Clone, Copy)]
+#[derive(Clone, Copy, PartialEq, Eq, Debug)]
 #[repr(C)]
 pub struct Written {
     pub status: u8,
@@ -25,7 +25,7 @@ fn tell(res: Result<usize, Unwritable>) -> Written
             length,
         },
         Err(cause) => Written {
-            status: u8::from(cause.status()),
+            status: u8::from(Status::from(cause)),
             length: 0,
         },
     }

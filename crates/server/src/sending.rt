@@ -11,7 +11,7 @@ use library::cores::Core;
 use library::verdict::{Final, Tail};
 use receipt::receive::Answer;
 use requests::{BadPacket, Request};
-use responses::{Response, ResponseKind};
+use responses::{Head, Response, ResponseKind};
 use robots::robot::Robot;
 use statuses::Status;
 
@@ -30,14 +30,14 @@ pub fn send_bad_packet(bad: BadPacket, buffer: &mut [u8]) -> usize
     ensures after { buffer.new ≡ left (bad_told bad) buffer.old }
     ensures bound { result ≤ 2048 }
 {
-    let response = Response::plain(
-        bad.number,
-        bad.command,
-        ResponseKind::Final,
-        bad.cause.status(),
-        bad.cause.detail(),
-    );
-    send(&response, buffer)
+    let head = Head {
+        number: bad.number,
+        command: bad.command,
+        kind: ResponseKind::Final,
+        status: Status::from(bad.cause),
+        detail: bad.cause.detail(),
+    };
+    send(&Response::plain(head), buffer)
 }
 
 fn send_acknowledge(request: Request, buffer: &mut [u8]) -> usize
@@ -45,15 +45,14 @@ fn send_acknowledge(request: Request, buffer: &mut [u8]) -> usize
     ensures after { buffer.new ≡ left (acknowledge_told request) buffer.old }
     ensures bound { result ≤ 2048 }
 {
-    let command = request.body.command().code();
-    let response = Response::plain(
-        Some(request.number),
-        Some(command),
-        ResponseKind::Acknowledge,
-        Status::Success,
-        None,
-    );
-    send(&response, buffer)
+    let head = Head {
+        number: Some(request.number),
+        command: Some(u8::from(request.body.command())),
+        kind: ResponseKind::Acknowledge,
+        status: Status::Success,
+        detail: None,
+    };
+    send(&Response::plain(head), buffer)
 }
 
 /// Writes a final; an inventory is asked of the robot now.
@@ -62,31 +61,20 @@ pub fn send_final<R: Robot>(core: &Core<R>, ended: &Final, buffer: &mut [u8]) ->
     ensures after { buffer.new ≡ left (final_told (final_of ended.now) core.now.stock.robot) buffer.old }
     ensures bound { result ≤ 2048 }
 {
-    let number = Some(ended.request.number);
-    let command = Some(ended.request.body.command().code());
-    let status = ended.verdict.status;
-    let detail = ended.verdict.detail;
+    let head = Head {
+        number: Some(ended.request.number),
+        command: Some(u8::from(ended.request.body.command())),
+        kind: ResponseKind::Final,
+        status: ended.verdict.status,
+        detail: ended.verdict.detail,
+    };
     match &ended.verdict.tail {
-        Tail::Nothing => send(
-            &Response::plain(number, command, ResponseKind::Final, status, detail),
-            buffer,
-        ),
-        Tail::One(entry) => send(
-            &Response::with_entries(number, command, status, detail, &[*entry]),
-            buffer,
-        ),
-        Tail::Many(entries) => {
-            send(
-                &Response::with_entries(number, command, status, detail, entries.as_slice()),
-                buffer,
-            )
-        }
+        Tail::Nothing => send(&Response::plain(head), buffer),
+        Tail::One(entry) => send(&Response::with_entries(head, &[*entry]), buffer),
+        Tail::Many(entries) => send(&Response::with_entries(head, entries.as_slice()), buffer),
         Tail::Inventory => {
             let places = core.stock.inventory();
-            send(
-                &Response::with_inventory(number, command, status, detail, &places),
-                buffer,
-            )
+            send(&Response::with_inventory(head, &places), buffer)
         }
     }
 }
