@@ -21,6 +21,7 @@ fn any_from(rows: &[Filed], from: usize, number: u32) -> bool
     rows.iter().skip(from).any(|row| row.number == number)
 }
 
+/// The row that is the first with this number, or that there is another too.
 fn volume_in(rows: &[Filed], number: u32) -> Option<Volume>
     ensures { result ≡ volume_of rows.now number }
 {
@@ -32,6 +33,7 @@ fn volume_in(rows: &[Filed], number: u32) -> Option<Volume>
     Some(Volume::One(Row { index, place }))
 }
 
+/// The first row that names the place.
 fn index_in(rows: &[Filed], place: u16) -> Option<usize>
     ensures { result ≡ index_of rows.now place }
 {
@@ -65,8 +67,8 @@ impl Catalogue {
     pub fn refile(&mut self, index: usize, to: u16)
         ensures { filed_in self.new ≡ refiled index to (filed_in self.old) }
     {
-        if index < self.rows.len() {
-            self.rows[index].place = to;
+        if let Some(row) = self.rows.get_mut(index) {
+            row.place = to;
         }
     }
 
@@ -84,7 +86,7 @@ impl Catalogue {
         ensures { filed_in self.new ≡ filed_more (record { number = number; place = place }) (filed_in self.old) }
     {
         if self.rows.len() < 256 {
-            let _ = self.rows.push(Filed { number, place });
+            self.rows.push_reserved(Filed { number, place });
         }
     }
 
