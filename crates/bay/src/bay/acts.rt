@@ -4,7 +4,7 @@ ghost use Rattle.robots.specs.Making.{Made};
 ghost use Rattle.std.proofs.Common.{arith};
 
 use super::Bay;
-use robots::keeper::Keeper;
+use robots::keeper::{Granted, Keeper};
 use robots::making::{Unmade, check_places};
 use robots::place::Place;
 use std::alloc::Global;
@@ -37,12 +37,12 @@ impl Keeper for Bay {
         self.places.get(p as usize).copied()
     }
 
-    fn store(&mut self, p: u16, number: u32, hand: u32) {
+    fn store(&mut self, _: Granted, p: u16, number: u32, hand: u32) {
         self.places[p as usize].cartridge = number;
         self.hand = hand;
     }
 
-    fn turn(&mut self, p: u16, on: bool) {
+    fn turn(&mut self, _: Granted, p: u16, on: bool) {
         self.places[p as usize].in_service = on;
     }
 }

@@ -20,6 +20,7 @@ fn any_from(rows: &[Filed], from: usize, number: u32) -> bool
     rows.iter().skip(from).any(|row| row.number == number)
 }
 
+/// The row that is the first with this number, or that there is another too.
 fn volume_in(rows: &[Filed], number: u32) -> Option<Volume>
     ensures { result ≡ volume_of rows.now number }
 {
@@ -31,6 +32,7 @@ fn volume_in(rows: &[Filed], number: u32) -> Option<Volume>
     Some(Volume::One(Row { index, place }))
 }
 
+/// The first row that names the place.
 fn index_in(rows: &[Filed], place: u16) -> Option<usize>
     ensures { result ≡ index_of rows.now place }
 {
@@ -64,8 +66,8 @@ impl Catalogue {
     pub fn refile(&mut self, index: usize, to: u16)
         ensures { self.new ≡ refiled index to self.old }
     {
-        if index < self.rows.len() {
-            self.rows[index].place = to;
+        if let Some(row) = self.rows.get_mut(index) {
+            row.place = to;
         }
     }
 
@@ -83,7 +85,7 @@ impl Catalogue {
         ensures { self.new ≡ filed_more (record { number = number; place = place }) self.old }
     {
         if self.rows.len() < 256 {
-            let _ = self.rows.push(Filed { number, place });
+            self.rows.push_reserved(Filed { number, place });
         }
     }
 

@@ -1,6 +1,8 @@
-ghost use Rattle.std.specs.Prelude.{◌≡◌, length};
+ghost use Rattle.std.specs.Prelude.{◌≡◌, ◌<◌, ◌≤◌, length};
+ghost use Rattle.labels.specs.Numbers.{unreadable_number};
+ghost use Rattle.robots.specs.Acts.{with_held};
 ghost use Rattle.robots.specs.Making.{Made};
-ghost use Rattle.robots.specs.Meaning.{held_at};
+ghost use Rattle.robots.specs.Meaning.{count, held_at};
 ghost use Rattle.tag_frame.specs.Frames.{frame_meaning};
 ghost use Rattle.std.proofs.Common.{◌∙◌, arith};
 ghost use Rattle.std.proofs.lemmas.List.{length-map};
@@ -9,7 +11,7 @@ ghost use Rattle.tag_frame.specs.Tagged.{held_length, held_number};
 use super::TagFrame;
 use crate::site::sites_of;
 use crate::tag::{number_in, retag};
-use robots::keeper::Keeper;
+use robots::keeper::{Granted, Keeper};
 use robots::making::{Unmade, check_places};
 use robots::place::Place;
 use std::alloc::Global;
@@ -24,9 +26,20 @@ impl TagFrame {
         let tags = Vec::with_capacity(heap, places.len())?;
         let mut frame = TagFrame { sites, tags, hand };
         for (p, place) in places.iter().enumerate() {
-            frame.store(p as u16, place.cartridge, hand);
+            frame.hold(p as u16, place.cartridge, hand);
         }
         Ok(frame)
+    }
+
+    /// Place p and the hand now hold these.
+    fn hold(&mut self, p: u16, number: u32, hand: u32)
+        requires within { p < count (frame_meaning self.old) }
+        requires numbered { number ≤ unreadable_number }
+        requires handed { hand ≤ unreadable_number }
+        ensures { frame_meaning self.new ≡ with_held (frame_meaning self.old) p number hand }
+    {
+        retag(&mut self.tags, p, number);
+        self.hand = hand;
     }
 
     /// The number of the cartridge at p, or 0.
@@ -67,12 +80,11 @@ impl Keeper for TagFrame {
         })
     }
 
-    fn store(&mut self, p: u16, number: u32, hand: u32) {
-        retag(&mut self.tags, p, number);
-        self.hand = hand;
+    fn store(&mut self, _: Granted, p: u16, number: u32, hand: u32) {
+        self.hold(p, number, hand);
     }
 
-    fn turn(&mut self, p: u16, on: bool) {
+    fn turn(&mut self, _: Granted, p: u16, on: bool) {
         self.sites[p as usize].in_service = on;
     }
 }

@@ -7,7 +7,7 @@ pub loop-p-init : goal.loop-p-init
 loop-p-init c = meant_none (vec_items c.in_ok-sites.sites) (vec_items c.in_ok-tags.tags) c.args.hand c.args.places.now c.in_ok-sites.ensures c.in_ok-tags.ensures.items
 
 pub loop-p-preserved : goal.loop-p-preserved
-loop-p-preserved c = meant_more c.loop-p.p c.args.places.now c.args.hand _ _ _ c.loop-p.invariant c.store.ensures
+loop-p-preserved c = meant_more c.loop-p.p c.args.places.now c.args.hand _ _ _ c.loop-p.invariant c.hold.ensures
 
 pub returns : goal.returns
 returns c = (search rules, c.loop-p.invariant ∙ simp (filled_all c.args.places.now c.loop-p.p c.loop-p-test.false))

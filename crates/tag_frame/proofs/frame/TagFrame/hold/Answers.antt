@@ -2,7 +2,7 @@ use Rattle.std.proofs.Common.{length, ap, ◌∙◌, arith}
 use Rattle.std.proofs.lemmas.List.{length-map}
 use Rattle.tag_frame.specs.Tags.{tidy, held_of}
 use Rattle.tag_frame.specs.Tagged.{room_left, retagged_held, retagged_tidy}
-use Rattle.tag_frame.proofs.frame.acts.TagFrameKeeper.store.Goals as goal
+use Rattle.tag_frame.proofs.frame.TagFrame.hold.Goals as goal
 
 pub retag-requires : goal.retag-requires
 retag-requires c =
