@@ -1,8 +1,8 @@
 -- What one write after another leaves in a buffer.
-use Rattle.std.proofs.Common.{◌≡◌, ℕ, ◌+◌, ◌≤◌, List, [], ◌++◌, length, take, drop, Some, None, Option, sym, refl, ap, ◌∙◌, subst, append_assoc, add-zero, zero-add, arith, length-append, take-append-drop, length-take-le, length-drop, drop-drop}
+use Rattle.std.proofs.Common.{◌≡◌, ℕ, ◌+◌, ◌≤◌, List, [], ◌++◌, length, take, drop, sym, ap, ◌∙◌, subst, append_assoc, add-zero, zero-add, arith, length-append, take-append-drop, length-take-le, length-drop, drop-drop}
 use Rattle.std.proofs.lemmas.List.{take_at, drop_at}
 use Rattle.byte_fields.specs.declared.putting.Writer.{Writer}
-use Rattle.byte_fields.specs.Putting.{over, Wrote, one_bytes, two_bytes}
+use Rattle.byte_fields.specs.Putting.{over, Wrote}
 use Rattle.byte_fields.specs.Writers.{Put, Added}
 
 pub over_none : (at : ℕ) (xs : List ℕ) → over at [] xs ≡ xs
