@@ -14,9 +14,9 @@ fn digit(b: u8) -> u32
     ensures bound { result < 36 }
 {
     if b <= b'9' {
-        (b - b'0') as u32
+        u32::from(b - b'0')
     } else {
-        (b - b'A') as u32 + 10
+        u32::from(b - b'A') + 10
     }
 }
 

@@ -4,7 +4,7 @@ ghost use Rattle.std.specs.Prelude.{◌<◌, ◌≤◌, length, IfSome};
 ghost use Rattle.std.specs.Iterator.{at_most};
 
 /// A call of a script.
-#[derive(Clone, Copy)]
+#[derive(Clone, Copy, PartialEq, Eq, Debug)]
 pub enum Call<'a> {
     /// The packet is received.
     Receive(&'a [u8]),
@@ -29,7 +29,7 @@ const SERVICE: u8 = 0x43;
 fn packet_call(code: u8, rest: &[u8]) -> Option<(Call<'_>, &[u8])>
     ensures { IfSome result (λ p. length p.1.now ≤ length rest.now) }
 {
-    let length = (code % 32) as usize;
+    let length = usize::from(code % 32);
     if code >= STEPS || rest.len() < length {
         return None;
     }

@@ -93,7 +93,7 @@ pub(crate) fn take_entries<'a, 'b>(
         return Some((None, bytes));
     }
     let (count, rest) = u8::cut(bytes)?;
-    let count = count as usize;
+    let count = usize::from(count);
     if count > MOST_ENTRIES {
         return None;
     }

@@ -16,10 +16,8 @@ use robots::robot::Robot;
 fn is_entering(work: &Option<Work>) -> bool
     ensures { result ≡ entering (work_of work.now) }
 {
-    match work {
-        Some(work) => matches!(work.request.body, Body::Enter),
-        None => false,
-    }
+    work.as_ref()
+        .is_some_and(|work| matches!(work.request.body, Body::Enter))
 }
 
 /// Whether a hand reaches the place while the door is shut.

@@ -15,20 +15,27 @@ use responses::{Head, Response, ResponseKind};
 use robots::robot::Robot;
 use statuses::Status;
 
+/// A response that was written; none is longer than 2,048 bytes.
+#[derive(Clone, Copy)]
+pub struct Sent {
+    pub length: usize,
+    ghost bound: { length ≤ 2048 },
+}
+
 /// Writes the response, and tells its length.
-fn send(response: &Response, buffer: &mut [u8]) -> usize
-    ensures length { result ≡ length_in buffer.old (told response.now) }
+fn send(response: &Response, buffer: &mut [u8]) -> Sent
+    ensures length { result.length ≡ length_in buffer.old (told response.now) }
     ensures after { buffer.new ≡ left (told response.now) buffer.old }
-    ensures bound { result ≤ 2048 }
 {
-    response.write(buffer).unwrap_or(0)
+    Sent {
+        length: response.write(buffer).unwrap_or(0),
+    }
 }
 
 /// Writes the final that refuses a packet.
-pub fn send_bad_packet(bad: BadPacket, buffer: &mut [u8]) -> usize
-    ensures length { result ≡ length_in buffer.old (bad_told bad) }
+pub fn send_bad_packet(bad: BadPacket, buffer: &mut [u8]) -> Sent
+    ensures length { result.length ≡ length_in buffer.old (bad_told bad) }
     ensures after { buffer.new ≡ left (bad_told bad) buffer.old }
-    ensures bound { result ≤ 2048 }
 {
     let head = Head {
         number: bad.number,
@@ -40,10 +47,9 @@ pub fn send_bad_packet(bad: BadPacket, buffer: &mut [u8]) -> usize
     send(&Response::plain(head), buffer)
 }
 
-fn send_acknowledge(request: Request, buffer: &mut [u8]) -> usize
-    ensures length { result ≡ length_in buffer.old (acknowledge_told request) }
+fn send_acknowledge(request: Request, buffer: &mut [u8]) -> Sent
+    ensures length { result.length ≡ length_in buffer.old (acknowledge_told request) }
     ensures after { buffer.new ≡ left (acknowledge_told request) buffer.old }
-    ensures bound { result ≤ 2048 }
 {
     let head = Head {
         number: Some(request.number),
@@ -56,10 +62,9 @@ fn send_acknowledge(request: Request, buffer: &mut [u8]) -> usize
 }
 
 /// Writes a final; an inventory is asked of the robot now.
-pub fn send_final<R: Robot>(core: &Core<R>, ended: &Final, buffer: &mut [u8]) -> usize
-    ensures length { result ≡ length_in buffer.old (final_told (final_of ended.now) core.now.stock.robot) }
+pub fn send_final<R: Robot>(core: &Core<R>, ended: &Final, buffer: &mut [u8]) -> Sent
+    ensures length { result.length ≡ length_in buffer.old (final_told (final_of ended.now) core.now.stock.robot) }
     ensures after { buffer.new ≡ left (final_told (final_of ended.now) core.now.stock.robot) buffer.old }
-    ensures bound { result ≤ 2048 }
 {
     let head = Head {
         number: Some(ended.request.number),
@@ -80,10 +85,9 @@ pub fn send_final<R: Robot>(core: &Core<R>, ended: &Final, buffer: &mut [u8]) ->
 }
 
 /// Writes what a received request is answered.
-pub fn send_answer<R: Robot>(core: &Core<R>, answer: &Answer, buffer: &mut [u8]) -> usize
-    ensures length { result ≡ length_in buffer.old (said_told (said_by answer.now) core.now.stock.robot) }
+pub fn send_answer<R: Robot>(core: &Core<R>, answer: &Answer, buffer: &mut [u8]) -> Sent
+    ensures length { result.length ≡ length_in buffer.old (said_told (said_by answer.now) core.now.stock.robot) }
     ensures after { buffer.new ≡ left (said_told (said_by answer.now) core.now.stock.robot) buffer.old }
-    ensures bound { result ≤ 2048 }
 {
     match answer {
         Answer::Acknowledge(request) => send_acknowledge(*request, buffer),

@@ -40,10 +40,10 @@ fn leaves_in_order(ring: &mut Ring<u8>, count: u8) -> bool {
 /// One ring of `size` slots out of 8, its oldest record at `head`.
 fn turns(size: u8, head: usize) -> bool {
     let mut slots = [99; 8];
-    let mut ring = Ring::new(&mut slots, size as usize);
+    let mut ring = Ring::new(&mut slots, usize::from(size));
     advance(&mut ring, head);
     let accepted = fill(&mut ring);
-    if accepted != size as usize || !ring.is_full() || ring.len() != accepted {
+    if accepted != usize::from(size) || !ring.is_full() || ring.len() != accepted {
         return false;
     }
     if ring.any(|record| record == size) || (size > 0 && !ring.any(|record| record == size - 1)) {
@@ -55,20 +55,20 @@ fn turns(size: u8, head: usize) -> bool {
 /// Changes at every turn: each record, and one of them.
 fn changes(size: u8, head: usize) -> bool {
     let mut slots = [99; 8];
-    let mut ring = Ring::new(&mut slots, size as usize);
+    let mut ring = Ring::new(&mut slots, usize::from(size));
     advance(&mut ring, head);
     let _ = fill(&mut ring);
     ring.each(|_| 7);
     if ring.any(|record| record == 0) {
         return false;
     }
-    if ring.replace(size as usize, 8).is_ok() {
+    if ring.replace(usize::from(size), 8).is_ok() {
         return false;
     }
     if size == 0 {
         return true;
     }
-    let last = (size - 1) as usize;
+    let last = usize::from(size - 1);
     ring.replace(last, 8).is_ok()
         && ring.get(last) == Some(8)
         && (last == 0 || ring.get(0) == Some(7))

@@ -10,7 +10,7 @@ use std::test::*;
 pub const V0: u32 = 1_874_451_457;
 
 /// A call, and what it must give.
-#[derive(Clone, Copy)]
+#[derive(Clone, Copy, PartialEq, Eq, Debug)]
 pub enum Call {
     /// The packet is answered by these bytes.
     Receive(&'static [u8], &'static [u8]),

@@ -36,6 +36,7 @@ fn number_in(read: &Result<Request, BadPacket>) -> Option<u16>
 fn is_used<R: Robot>(core: &Core<R>, number: Option<u16>) -> bool
     ensures { result ≡ used_by (library_of core.now) number }
 {
+    // No `is_some_and`: what a closure within a closure answers is lost to the proof.
     match number {
         Some(number) => core.any_request(|q| q.number == number),
         None => false,
@@ -75,10 +76,10 @@ impl<'a, R: Robot> Serving<'a, R> {
             return Err(CallRefusal::NumberInUse);
         }
         match request {
-            Err(bad) => Ok(send_bad_packet(bad, buffer)),
+            Err(bad) => Ok(send_bad_packet(bad, buffer).length),
             Ok(request) => {
                 let answer = receive(&mut self.core, request);
-                Ok(send_answer(&self.core, &answer, buffer))
+                Ok(send_answer(&self.core, &answer, buffer).length)
             }
         }
     }
@@ -95,7 +96,7 @@ impl<'a, R: Robot> Serving<'a, R> {
         }
         match step(&mut self.core) {
             None => Ok(0),
-            Some(ended) => Ok(send_final(&self.core, &ended, buffer)),
+            Some(ended) => Ok(send_final(&self.core, &ended, buffer).length),
         }
     }
 
