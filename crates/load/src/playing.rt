@@ -1,5 +1,3 @@
-ghost use Rattle.std.specs.Prelude.{◌≤◌, IfOk};
-
 use crate::script::{Call, Calls};
 use crate::site::{Spot, places_of};
 use crate::tally::{NO_CALLS, Tally};
@@ -40,14 +38,15 @@ struct Player<'a, R: Robot> {
 
 impl<R: Robot> Player<'_, R> {
     /// Counts a call and adds what it wrote; tells the length.
-    fn tell(&mut self, res: Result<usize, CallRefusal>) -> usize
-        requires { IfOk res (λ n. n ≤ 2048) }
-    {
+    fn tell(&mut self, res: Result<usize, CallRefusal>) -> usize {
         match res {
-            Ok(length) => {
-                self.tally.hear(0, &self.buffer[0..length]);
-                length
-            }
+            Ok(length) => match self.buffer.get(0..length) {
+                Some(response) => {
+                    self.tally.hear(0, response);
+                    length
+                }
+                None => 0,
+            },
             Err(why) => {
                 self.tally.hear(u8::from(why), &[]);
                 0

@@ -34,15 +34,15 @@ impl Keeper for Bay {
     }
 
     fn place(&self, p: u16) -> Option<Place> {
-        self.places.get(usize::from(p)).copied()
+        self.places.get(p as usize).copied()
     }
 
     fn store(&mut self, _: Granted, p: u16, number: u32, hand: u32) {
-        self.places[usize::from(p)].cartridge = number;
+        self.places[p as usize].cartridge = number;
         self.hand = hand;
     }
 
     fn turn(&mut self, _: Granted, p: u16, on: bool) {
-        self.places[usize::from(p)].in_service = on;
+        self.places[p as usize].in_service = on;
     }
 }

@@ -73,7 +73,7 @@ impl Keeper for TagFrame {
     }
 
     fn place(&self, p: u16) -> Option<Place> {
-        self.sites.get(usize::from(p)).map(|site| Place {
+        self.sites.get(p as usize).map(|site| Place {
             kind: site.kind,
             cartridge: self.number_at(p),
             in_service: site.in_service,
@@ -85,6 +85,6 @@ impl Keeper for TagFrame {
     }
 
     fn turn(&mut self, _: Granted, p: u16, on: bool) {
-        self.sites[usize::from(p)].in_service = on;
+        self.sites[p as usize].in_service = on;
     }
 }
