@@ -1,12 +1,9 @@
 -- What one write after another leaves in a buffer.
-use Rattle.std.proofs.Common.{◌≡◌, ℕ, ◌+◌, ◌≤◌, List, [], ◌++◌, length, take, drop, sym, ap, ◌∙◌, subst, append_assoc, add-zero, zero-add, arith, length-append, take-append-drop, length-take-le, length-drop, drop-drop}
+use Rattle.std.proofs.Common.{◌≡◌, ℕ, ◌+◌, ◌≤◌, List, [], ◌++◌, length, take, drop, sym, ap, ◌∙◌, subst, append_assoc, zero-add, arith, length-append, length-take-le, length-drop, drop-drop}
 use Rattle.std.proofs.lemmas.List.{take_at, drop_at}
 use Rattle.byte_fields.specs.declared.putting.Writer.{Writer}
 use Rattle.byte_fields.specs.Putting.{over, Wrote}
 use Rattle.byte_fields.specs.Writers.{Put, Added}
-
-pub over_none : (at : ℕ) (xs : List ℕ) → over at [] xs ≡ xs
-over_none at xs = rw (add-zero, take-append-drop)
 
 length_over : (at : ℕ) (a xs : List ℕ) → at ≤ length xs → length (take at xs ++ a) ≡ at + length a
 length_over at a xs h = rw (length-append (take at xs) a, length-take-le at xs h)
@@ -21,10 +18,6 @@ over_join at a b xs h =
     sym (drop-drop (length b) (at + length a) (over at a xs)) ∙ ap (λ (l : List ℕ). drop (length b) l) d ∙ drop-drop (length b) (at + length a) xs
     ∙ ap (λ (k : ℕ). drop k xs) (let l = length-append a b in omega arith) in
     rw (t, f) (simp append_assoc)
-
--- Nothing was written.
-pub wrote_none : (at : ℕ) (xs : List ℕ) → Wrote at [] xs xs at
-wrote_none at xs = record { bytes = sym (over_none at xs); end = sym (add-zero at) }
 
 -- One write, and then another behind it.
 pub wrote_then : {at m r : ℕ} {a b xs ys zs : List ℕ} → at ≤ length xs → Wrote at a xs ys m → Wrote m b ys zs r → Wrote at (a ++ b) xs zs r

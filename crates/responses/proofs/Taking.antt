@@ -24,12 +24,6 @@ each_turn n i rest behind es e l m h =
     ∙ prefixed_push (take i es) e (each_off k behind)
     ∙ ap (λ (xs : List Entry). prefixed xs (each_off k behind)) (sym (take_more_set es i e (omega arith)))
 
-pub each_stop : (n i : ℕ) (rest : List ℕ) (es : List Entry) → i < n → None ≡ entry_off rest → prefixed (take i es) (each_off (n - i) rest) ≡ None
-each_stop n i rest es l h =
-    let q : n - i ≡ suc (n - (i + 1)) = omega arith in
-    ap (λ (j : ℕ). prefixed (take i es) (each_off j rest)) q
-    ∙ ap (λ (o : Option (Entry × List ℕ)). prefixed (take i es) (after o (λ x r. consed x (each_off (n - (i + 1)) r)))) (sym h)
-
 pub each_end : (n i : ℕ) (rest : List ℕ) (es : List Entry) → n ≤ i → length es ≡ n → prefixed (take i es) (each_off (n - i) rest) ≡ Some (es, rest)
 each_end n i rest es l m =
     let q : n - i ≡ 0 = omega arith in
@@ -73,13 +67,6 @@ place_turn bits i rest behind ns n t l m e h =
     ∙ prefixed_push (take i ns) n (places_off (drop (suc i) bits) behind)
     ∙ ap (λ (xs : List ℕ). prefixed xs (places_off (drop (suc i) bits) behind)) (sym (take_more_set ns i n m))
     ∙ ap (λ (k : ℕ). prefixed (take (i + 1) (set ns i n)) (places_off (drop k bits) behind)) (sym (add-one i))
-
-pub place_stop : (bits : List Bool) (i : ℕ) (rest : List ℕ) (ns : List ℕ) (t : Bool) → i < length bits → t ≡ get_or bits i false → None ≡ place_off t rest
-    → prefixed (take i ns) (places_off (drop i bits) rest) ≡ None
-place_stop bits i rest ns t l e h =
-    ap (λ (bs : List Bool). prefixed (take i ns) (places_off bs rest)) (drop-cons bits i false l)
-    ∙ ap (λ (b : Bool). prefixed (take i ns) (after (place_off b rest) (λ x r. consed x (places_off (drop (suc i) bits) r)))) (sym e)
-    ∙ ap (λ (o : Option (ℕ × List ℕ)). prefixed (take i ns) (after o (λ x r. consed x (places_off (drop (suc i) bits) r)))) (sym h)
 
 pub place_end : (bits : List Bool) (i : ℕ) (rest : List ℕ) (ns : List ℕ) → length bits ≤ i → length ns ≤ i → prefixed (take i ns) (places_off (drop i bits) rest) ≡ Some (ns, rest)
 place_end bits i rest ns l m =

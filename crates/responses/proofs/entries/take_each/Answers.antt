@@ -1,16 +1,10 @@
-use Rattle.std.proofs.Common.{rules, ◌≡◌, ◌-◌, ◌<◌, ◌≤◌, length, None, Some, sym, ◌∙◌, arith}
+use Rattle.std.proofs.Common.{rules, ◌≡◌, ◌-◌, ◌<◌, ◌≤◌, length, Some, sym, ◌∙◌, arith}
 use Rattle.responses.specs.Reading.{entry_off}
-use Rattle.responses.proofs.Taking.{prefixed_none, each_turn, each_stop, each_end}
+use Rattle.responses.proofs.Taking.{prefixed_none, each_turn, each_end}
 use Rattle.responses.proofs.entries.take_each.Goals as goal
 
 pub loop-slot-init : goal.loop-slot-init
 loop-slot-init c = let z : length c.args.entries.now - 0 ≡ length c.args.entries.now = omega arith in rw z (prefixed_none _)
-
-pub returns-in_err-slot : goal.returns-in_err-slot
-returns-in_err-slot c =
-    let e : None ≡ entry_off c.loop-slot.rest.now = search rules in
-    let l : c.loop-slot.slot-index < length c.args.entries.now = search rules in
-    rw c.from_residual.ensures (sym (c.loop-slot.invariant ∙ each_stop (length c.args.entries.now) c.loop-slot.slot-index _ c.loop-slot.entries l e))
 
 pub loop-slot-preserved : goal.loop-slot-preserved
 loop-slot-preserved c =

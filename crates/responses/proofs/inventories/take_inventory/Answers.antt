@@ -1,6 +1,6 @@
-use Rattle.std.proofs.Common.{◌≡◌, ℕ, ◌≤◌, List, length, take, drop, Some, None, sym, ap, ◌∙◌, arith, length-take-le, rules}
+use Rattle.std.proofs.Common.{◌≡◌, ℕ, ◌≤◌, List, length, take, drop, Some, sym, ap, ◌∙◌, arith, length-take-le, rules}
 use Rattle.responses.specs.Reading.{bits_of, place_off}
-use Rattle.responses.proofs.Taking.{prefixed_none, place_turn, place_stop, place_end, inventory_at, length_bits}
+use Rattle.responses.proofs.Taking.{prefixed_none, place_turn, place_end, inventory_at, length_bits}
 use Rattle.responses.proofs.inventories.take_inventory.Goals as goal
 
 -- A map of 32 bytes has a bit for each of 256 places.
@@ -13,17 +13,6 @@ bits bs map h e =
 
 pub loop-place-init : goal.loop-place-init
 loop-place-init c = prefixed_none _
-
-pub returns-in_err-slot : goal.returns-in_err-slot
-returns-in_err-slot c =
-    let bs = c.args.bytes.now in
-    let map = c.in_ok-map.map.now in
-    let l : 32 ≤ length bs = search rules in
-    let m : map ≡ take 32 bs = search rules in
-    let r : c.in_ok-map.rest.now ≡ drop 32 bs = search rules in
-    let n = bits bs map l m in
-    let e : None ≡ place_off c.bit_at.result c.loop-place.rest.now = search rules in
-    rw c.from_residual-in_err-slot.ensures (sym (inventory_at bs map _ l m r ∙ c.loop-place.invariant ∙ place_stop (bits_of map) c.loop-place.place _ c.loop-place.places c.bit_at.result (omega arith) c.bit_at.ensures e))
 
 pub loop-place-preserved : goal.loop-place-preserved
 loop-place-preserved c =
