@@ -1,5 +1,5 @@
 -- A library of which one part is changed.
-use Rattle.std.specs.Prelude.{ℕ, List, map}
+use Rattle.std.specs.Prelude.{List, map}
 use Rattle.requests.specs.declared.bodies.Request.{Request}
 use Rattle.library.specs.declared.drive.DriveState.{DriveState}
 use Rattle.library.specs.Library.{Library}

@@ -1,7 +1,6 @@
 -- The library that a core stands for.
 use Rattle.std.specs.Prelude.{false, Some, None, Option}
 use Rattle.ring.specs.Queue.{records}
-use Rattle.robots.specs.Meaning.{Meaning}
 use Rattle.library.specs.declared.cores.Work.{Work}
 use Rattle.library.specs.declared.cores.Core.{Core}
 use Rattle.library.specs.Library.{Job, Library}

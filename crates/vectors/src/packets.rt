@@ -50,8 +50,12 @@ fn refused_fields(rt: HostRuntime) -> Result<(), Fail> {
     assert!(rt; detail_of(&[0x83, 0x00, 0x01, 0x05]) == Some(7));
     assert!(rt; status_of(&[0x07, 0x00, 0x01, 0x06, 0x02]) == Some(4));
     assert!(rt; detail_of(&[0x07, 0x00, 0x01, 0x06, 0x02]) == Some(2));
-    assert!(rt; status_of(&[0x0B, 0x00, 0x01, 0x04, b'A', b'b', b'C', b'1', b'2', b'3']) == Some(5));
-    assert!(rt; detail_of(&[0x0B, 0x00, 0x01, 0x04, b'A', b'b', b'C', b'1', b'2', b'3']) == Some(1));
+    assert!(rt;
+        status_of(&[0x0B, 0x00, 0x01, 0x04, b'A', b'b', b'C', b'1', b'2', b'3']) == Some(5)
+    );
+    assert!(rt;
+        detail_of(&[0x0B, 0x00, 0x01, 0x04, b'A', b'b', b'C', b'1', b'2', b'3']) == Some(1)
+    );
     assert!(rt; status_of(&[0x53, 0x00, 0x01, 0x0A, 0x02, 0x03]) == Some(6));
     Ok(())
 }
