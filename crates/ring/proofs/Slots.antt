@@ -150,10 +150,6 @@ in_order_set {X} capacity head count slots i x a b c f =
     ∙ sym (get_or-set_other old i k x d ne))
     (cases_eq k i))
 
--- a slot in use is none of those out of use
-pub in_order_rest : {X : Type 0} (capacity head : ℕ) (slots : List X) (i : ℕ) (x : X) → head ≤ capacity → i < capacity → drop capacity (set slots (slot_of capacity head i) x) ≡ drop capacity slots
-in_order_rest capacity head slots i x b h = drop-set-lt capacity slots (slot_of capacity head i) x (slot_lt capacity head i b h)
-
 -- The records are as many as counted.
 pub length_records : {X : Type 0} (q : Ring X) → length (records q) ≡ q.count
 length_records q = length_in_order q.capacity q.head q.count q.slots.now q.lent q.headed q.counted

@@ -1,10 +1,8 @@
 -- Number and status go back and forth.
-use Rattle.std.proofs.Common.{◌≡◌, ℕ, Bool, true, false, cond, eqb, Some, None, Option, Result, sym, refl, ap, ◌∙◌, arith, eqb-true}
+use Rattle.std.proofs.Common.{◌≡◌, ℕ, Bool, true, false, cond, eqb, Some, None, Option, sym, refl, ap, ◌∙◌, arith, eqb-true}
 use Rattle.statuses.specs.declared.Status.{Status}
 use Rattle.statuses.specs.declared.Status.TheVariants as status
-use Rattle.statuses.specs.declared.UnknownStatus.{UnknownStatus}
-use Rattle.std.specs.Result.{result_ok}
-use Rattle.statuses.specs.Statuses.{status_number, or_else, status_of, known_or, status_read}
+use Rattle.statuses.specs.Statuses.{status_number, or_else, status_of}
 
 -- The number of a status stands for that status.
 pub status_of_number : (s : Status) → status_of (status_number s) ≡ Some s
@@ -34,10 +32,6 @@ status_of_number status.OtherVolume = refl
 status_of_number status.NoPortPlace = refl
 status_of_number status.UnreadableLabel = refl
 status_of_number status.LibraryFailure = refl
-
--- Two statuses with one number are the same.
-pub same_status : (a b : Status) → status_number a ≡ status_number b → a ≡ b
-same_status a b e = let f : Some a ≡ Some b = sym (status_of_number a) ∙ ap status_of e ∙ status_of_number b in cc
 
 none_some : (s : Status) → None ≡ Some s → ⊥
 none_some s h = let z : ◌≡◌ {A = ℕ} 0 1 = cc in omega arith
@@ -79,11 +73,3 @@ number_of_status n s =
     (tried n status.UnreadableLabel _ s
     (tried n status.LibraryFailure _ s
     (λ h. absurd (none_some s h))))))))))))))))))))))))))))
-
-known_back : (n : ℕ) (o : Option Status) → result_ok (known_or n o) ≡ o
-known_back n None = refl
-known_back n (Some s) = refl
-
--- What is read from a number is the status that it stands for.
-pub status_told : (n : ℕ) (r : Result Status UnknownStatus) → r ≡ status_read n → result_ok r ≡ status_of n
-status_told n r e = ap result_ok e ∙ known_back n (status_of n)
