@@ -8,7 +8,8 @@ ghost use Rattle.std.specs.Prelude.{◌≡◌, length};
 use requests::{Unwritable, Values, write};
 use statuses::Status;
 
-/// What C is told of a packet that was to be written; the length is 0 where it was not.
+/// What C is told of a packet that was to be written; the length is 0 where it was not. C has no
+/// `Result`, so the status is a number.
 #[derive(Clone, Copy, PartialEq, Eq, Debug)]
 #[repr(C)]
 pub struct Written {

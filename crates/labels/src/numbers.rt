@@ -42,6 +42,7 @@ fn is_label_number(n: u32) -> bool
 
 impl Label {
     /// The label's cartridge number, from which `try_from` makes the label again.
+    // No `From`: `u32::from(label)` would not say which number.
     pub fn number(&self) -> u32
         ensures is { result ≡ number_of self.now.chars }
         ensures back { numbered result ≡ Some self.now }

@@ -12,7 +12,7 @@ use tag_frame::frame::TagFrame;
 /// A start over 256 places, which is the longest request, needs fewer steps.
 const MOST_STEPS: u16 = 300;
 
-/// What C is told: how many calls were made, and the sum of what they told; or that the site or the
+/// What C is told, which has no `Option`: how many calls were made, and the sum of what they told; or that the site or the
 /// server could not be made.
 #[derive(Clone, Copy)]
 #[repr(C)]
@@ -45,6 +45,7 @@ impl<R: Robot> Player<'_, R> {
                     self.tally.hear(0, response);
                     length
                 }
+                // No length is above 2,048, which the types here do not say.
                 None => 0,
             },
             Err(why) => {

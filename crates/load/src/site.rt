@@ -2,7 +2,7 @@ use robots::kind::Kind;
 use robots::place::Place;
 use std::alloc::{AllocError, Global};
 
-/// A place as C tells it: kind 0 is a cell, 1 a drive, any other a port place.
+/// A place as C tells it, by numbers: kind 0 is a cell, 1 a drive, any other a port place.
 #[derive(Clone, Copy)]
 #[repr(C)]
 pub struct Spot {

@@ -86,6 +86,7 @@ fn take_place(there: bool, bytes: &[u8]) -> Option<(u32, &[u8])>
 }
 
 /// An inventory off the front, into `places`.
+// No one loop with that of the entries: which places have a cartridge was told in the map before.
 fn take_inventory<'b>(bytes: &'b [u8], places: &mut [u32]) -> Option<&'b [u8]>
     requires { length places.old ≡ most_places }
     ensures { gathered result places.new ≡ inventory_off bytes.now }

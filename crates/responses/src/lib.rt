@@ -132,9 +132,8 @@ impl<'a> Response<'a> {
         ensures { told result ≡ told_in head (Some entries.now) None }
     {
         Response {
-            head,
             entries: Some(entries),
-            inventory: None,
+            ..Response::plain(head)
         }
     }
 
@@ -143,9 +142,8 @@ impl<'a> Response<'a> {
         ensures { told result ≡ told_in head None (Some inventory.now) }
     {
         Response {
-            head,
-            entries: None,
             inventory: Some(inventory),
+            ..Response::plain(head)
         }
     }
 }

@@ -6,7 +6,8 @@ mod slots;
 
 /// A first-in-first-out queue in lent slots.
 ///
-/// It uses the first `capacity` of them. The oldest record stands at `head`, or at 0 where `head` is `capacity`.
+/// Its host lends the memory, so it is no collection of the library. It uses the first `capacity` of the
+/// slots. The oldest record stands at `head`, or at 0 where `head` is `capacity`.
 #[derive(Drop)]
 pub struct Ring<'a, T> {
     slots: &'a mut [T],

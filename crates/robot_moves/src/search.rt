@@ -9,6 +9,7 @@ use robots::kind::Kind;
 use robots::robot::Questions;
 
 /// A place to look for.
+// A value and no closure: the definitions of the searches name it.
 #[derive(Clone, Copy, PartialEq, Eq, Debug)]
 pub enum Wanted {
     /// An empty cell in service.

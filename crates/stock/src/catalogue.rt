@@ -28,6 +28,7 @@ pub enum Volume {
 }
 
 /// The readable cartridges of cells and drives, each with its place. Room for 256 is got when it is made.
+// No map: filing in one would ask for memory, which no step may want, and a label may stand in several rows.
 #[derive(Drop)]
 pub struct Catalogue {
     rows: Vec<Filed>,

@@ -8,6 +8,7 @@ use crate::tag::Tag;
 pub mod acts;
 
 /// A robot that keeps a list of cartridges, each with its place. There is room for one at every place.
+// No map: an act would ask for memory, which none may want.
 #[derive(Drop)]
 pub struct TagFrame {
     sites: Vec<Site>,
