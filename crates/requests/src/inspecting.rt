@@ -62,6 +62,8 @@ pub(crate) fn pass_fields<const WRITING: bool>(f: Standing) -> Result<(), Cause>
     Ok(())
 }
 
+/// The same of a packet taken apart. The fact stays a clause here: `Taken` is public, and a ghost
+/// field would ask more of those who make one.
 fn pass(taken: Taken) -> Result<(), Cause>
     requires { taken.ending ≡ Exact → Stands taken.fields }
     ensures { result ≡ passed (judged taken) }

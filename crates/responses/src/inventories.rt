@@ -85,8 +85,8 @@ fn take_place(there: bool, bytes: &[u8]) -> Option<(u32, &[u8])>
     }
 }
 
-/// An inventory off the front, into `places`.
-// No one loop with that of the entries: which places have a cartridge was told in the map before.
+/// An inventory off the front, into `places`. A loop beside that of the entries is plainer than one
+/// for both: here a bit tells of each place whether there is something to take.
 fn take_inventory<'b>(bytes: &'b [u8], places: &mut [u32]) -> Option<&'b [u8]>
     requires { length places.old ≡ most_places }
     ensures { gathered result places.new ≡ inventory_off bytes.now }
