@@ -8,8 +8,10 @@ use Rattle.labels.specs.declared.Label.{Label}
 use Rattle.labels.specs.declared.WrongCharacter.{WrongCharacter}
 use Rattle.labels.specs.Characters.{first_wrong, all_right}
 use Rattle.labels.specs.Numbers.{label_of, highest_number}
+use Rattle.std.specs.Prelude.{ok_or}
 use Rattle.std.specs.Result.{result_ok}
-use Rattle.labels.specs.Labels.{labelled_by, labelled, label_or, is_label_number, numbered}
+use Rattle.labels.specs.declared.NoLabel.{NoLabel}
+use Rattle.labels.specs.Labels.{labelled_by, labelled, is_label_number, numbered}
 use Rattle.labels.proofs.Wrongs.{some_none, none_wrong}
 
 -- Two labels with the same characters are the same.
@@ -62,6 +64,6 @@ pub wrong_of : (cs : List ℕ) (w : WrongCharacter) → Err w ≡ labelled cs �
 wrong_of cs w h = wrong_by cs w (first_wrong 0 cs) refl h
 
 -- What a number is read as tells its label, if it has one.
-pub label_told : (n : ℕ) (o : Option Label) → result_ok (label_or n o) ≡ o
-label_told n None = refl
-label_told n (Some l) = refl
+pub label_told : (e : NoLabel) (o : Option Label) → result_ok (ok_or o e) ≡ o
+label_told e None = refl
+label_told e (Some l) = refl

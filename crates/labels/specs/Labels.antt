@@ -1,5 +1,5 @@
 -- Labels, their cartridge numbers, and the six bytes that stand for a cartridge.
-use Rattle.std.specs.Prelude.{◌≡◌, ℕ, Bool, false, cond, not, List, [], ◌∷◌, is_some, Some, None, Ok, Err, Option, Result, nat_le, refl, MatchResult}
+use Rattle.std.specs.Prelude.{◌≡◌, ℕ, Bool, false, cond, not, List, [], ◌∷◌, is_some, Some, None, Ok, Err, Option, Result, nat_le, refl, MatchResult, ok_or}
 use Rattle.std.proofs.Common.{ap}
 use Rattle.std.specs.Str.{bytes_eq}
 use Rattle.labels.specs.declared.Label.{Label}
@@ -29,14 +29,13 @@ is_label_number n = cond (nat_le 1 n) (nat_le n highest_number) false
 unfoldable pub numbered : ℕ → Option Label
 numbered n = cond (is_label_number n) (label_in (labelled (label_of n))) None
 
--- What a number is read as: the label that has it, or that none has.
-abbrev pub label_or : ℕ → Option Label → Result Label NoLabel
-label_or n (Some l) = Ok l
-label_or n None = Err (record { number = n })
+-- The same, with the number where no label has it.
+abbrev pub label_named : ℕ → Result Label NoLabel
+label_named n = ok_or (numbered n) (record { number = n })
 
 -- A read label has the number; a number that is not read is no label's.
 pub record LabelRead (n : ℕ) (read : Result Label NoLabel) : Type 0 where
-  pub is : read ≡ label_or n (numbered n)
+  pub is : read ≡ label_named n
   pub back : MatchResult read (λ l. number_of l.chars ≡ n) (λ _. is_label_number n ≡ false)
 
 -- Six question marks.

@@ -1,12 +1,12 @@
 -- The fields of a response, written one behind another, are its bytes.
-use Rattle.std.proofs.Common.{◌≡◌, ℕ, ◌≤◌, Bool, true, false, cond, ltb, List, [], ◌∷◌, ◌++◌, Some, None, Ok, Option, refl, append_assoc, arith, ltb-false}
+use Rattle.std.proofs.Common.{◌≡◌, ℕ, ◌≤◌, Bool, true, false, cond, ltb, List, [], ◌∷◌, ◌++◌, Some, None, Option, refl, append_assoc, arith, ltb-false}
 use Rattle.byte_fields.specs.Putting.{one_bytes, two_bytes}
 use Rattle.statuses.specs.Statuses.{status_number}
 use Rattle.responses.specs.declared.writing.Unwritable.{Unwritable}
 use Rattle.responses.specs.Responses.{Told, kind_number, count_of}
 use Rattle.responses.specs.Entries.{entries_bytes}
 use Rattle.responses.specs.Inventories.{inventory_bytes}
-use Rattle.responses.specs.Writing.{layer_byte, map_of, bytes_of, ok_unless, unwritable}
+use Rattle.responses.specs.Writing.{layer_byte, map_of, bytes_of, unwritable}
 
 regroup : (a b c d e f g h : List ℕ) → ((((((a ++ b) ++ c) ++ d) ++ e) ++ f) ++ g) ++ h ≡ a ++ (b ++ (c ++ (d ++ (e ++ (f ++ (g ++ h))))))
 regroup a b c d e f g h = simp append_assoc
@@ -38,7 +38,3 @@ writable n t h =
     let b = passed (ltb 21 (count_of t.entries)) _ _ a.1 in
     let c = passed (ltb 256 (count_of t.inventory)) _ _ b.1 in
     record { room = ltb-false n 2048 a.0; entries = ltb-false 21 (count_of t.entries) b.0; places = ltb-false 256 (count_of t.inventory) c.0 }
-
-pub all_well : {E : Type 0} (o : Option E) (u : Unit {0}) → Ok u ≡ ok_unless o → o ≡ None
-all_well None u h = refl
-all_well (Some e) u h = cc

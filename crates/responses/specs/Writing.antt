@@ -37,11 +37,6 @@ unwritable n t =
     (cond (nat_lt most_entries (count_of t.entries)) (Some ManyEntries)
     (cond (nat_lt most_places (count_of t.inventory)) (Some ManyPlaces) None))
 
--- All is well unless there is a reason against it.
-abbrev pub ok_unless : {E : Type 0} → Option E → Result (Unit {0}) E
-ok_unless None = Ok tt
-ok_unless (Some e) = Err e
-
 -- What the writer answers: the length, or why not.
 abbrev pub answer_by : Option Unwritable → Told → Result ℕ Unwritable
 answer_by None t = Ok (length (bytes_of t))

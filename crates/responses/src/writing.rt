@@ -3,7 +3,8 @@
 ghost use Rattle.std.specs.Prelude.{◌≡◌, ◌≤◌, ◌++◌, length, take, drop, IfOk};
 ghost use Rattle.responses.specs.Responses.{count_of, enough_bytes, listed, most_entries, most_places, told};
 ghost use Rattle.responses.specs.RoundTrips.{ReadsBack};
-ghost use Rattle.responses.specs.Writing.{answer, bytes_of, flag, layer_byte, left, map_of, ok_unless, unwritable};
+ghost use Rattle.std.specs.Result.{result_err};
+ghost use Rattle.responses.specs.Writing.{answer, bytes_of, flag, layer_byte, left, map_of, unwritable};
 
 use crate::entries::put_entries;
 use crate::inventories::put_inventory;
@@ -57,7 +58,7 @@ impl Response<'_> {
 
     /// Whether it is written into a buffer of `room` bytes.
     fn check(&self, room: usize) -> Result<(), Unwritable>
-        ensures { result ≡ ok_unless (unwritable room (told self.now)) }
+        ensures { result_err result ≡ unwritable room (told self.now) }
     {
         if room < ENOUGH_BYTES {
             Err(Unwritable::SmallBuffer)

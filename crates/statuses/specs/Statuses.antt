@@ -1,5 +1,5 @@
 -- The statuses: one row for each.
-use Rattle.std.specs.Prelude.{ℕ, Bool, true, false, cond, Some, None, Option, Ok, Err, Result, ◌==◌}
+use Rattle.std.specs.Prelude.{ℕ, Bool, true, false, cond, Some, None, Option, Result, ◌==◌, ok_or}
 use Rattle.statuses.specs.declared.Layer.{Layer}
 use Rattle.statuses.specs.declared.Layer.TheVariants as layer
 use Rattle.statuses.specs.declared.Status.{Status}
@@ -98,10 +98,6 @@ status_of n =
     (or_else n status.UnreadableLabel
     (or_else n status.LibraryFailure None))))))))))))))))))))))))))
 
--- What is read from the number n: the status that it stands for, or that it stands for none.
-abbrev pub known_or : ℕ → Option Status → Result Status UnknownStatus
-known_or n (Some s) = Ok s
-known_or n None = Err (record { code = n })
-
-abbrev pub status_read : ℕ → Result Status UnknownStatus
-status_read n = known_or n (status_of n)
+-- The same, with the number where it stands for none.
+abbrev pub status_named : ℕ → Result Status UnknownStatus
+status_named n = ok_or (status_of n) (record { code = n })

@@ -3,7 +3,7 @@
 
 #![tactic(auto)]
 
-ghost use Rattle.statuses.specs.Statuses.{layer_number, row, status_number, status_read};
+ghost use Rattle.statuses.specs.Statuses.{layer_number, row, status_named, status_number};
 ghost use Rattle.std.specs.Prelude.{◌≡◌, ◌==◌, Decides};
 
 mod words;
@@ -80,7 +80,7 @@ pub struct UnknownStatus {
 impl TryFrom<u8> for Status {
     type Error = UnknownStatus;
 
-    ghost try_from_gives = { λ code read. read ≡ status_read code };
+    ghost try_from_gives = { λ code res. res ≡ status_named code };
 
     fn try_from(code: u8) -> Result<Status, UnknownStatus> {
         match code {

@@ -9,6 +9,6 @@ pub returns : goal.returns
 unfolding six_for
 returns c =
     let n = c.args.number in
-    let l : c.ok.result ≡ numbered n = c.ok.ensures.value ∙ ap result_ok c.try_from.ensures.is ∙ label_told n (numbered n) in
+    let l : c.ok.result ≡ numbered n = c.ok.ensures.value ∙ ap result_ok c.try_from.ensures.is ∙ label_told (record { number = n }) (numbered n) in
     let i : c.characters_of.result ≡ six_for n = c.characters_of.ensures ∙ ap characters_or_marks l in
     record { is = i; back = λ h. ap number_of_six i ∙ six_back n (cartridge_range n h).0 (cartridge_range n h).1 }
