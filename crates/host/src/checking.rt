@@ -7,9 +7,9 @@ ghost use Rattle.std.specs.Prelude.{◌≡◌};
 use requests::{Outline, inspect};
 use statuses::Status;
 
-/// What C is told of a packet. C has no `Option`: a flag stands beside each value, and a value that is
-/// not there is 0. The order of the fields leaves no
-/// gap between them, so that the record is returned in one register.
+/// What C is told of a packet. C has no `Option`, so a flag stands beside each value, and a value that is not
+/// there is 0. The order of the fields leaves no gap between them, so that the record is returned in one
+/// register.
 #[derive(Clone, Copy, PartialEq, Eq, Debug)]
 #[repr(C)]
 pub struct Checked {

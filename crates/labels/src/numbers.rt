@@ -47,6 +47,8 @@ impl Label {
         ensures is { result ≡ number_of self.now.chars }
         ensures back { numbered result ≡ Some self.now }
     {
+        // Written out, as the six characters of a number are below: a fold is no plainer, since that its
+        // sum fits would have to be kept from character to character.
         let [a, b, c, d, e, f] = self.chars;
         let k = digit(a);
         let k = k * 36 + digit(b);

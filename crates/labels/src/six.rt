@@ -6,6 +6,7 @@ ghost use Rattle.std.specs.Prelude.{◌≡◌, true, IfSome, Some};
 use crate::{Label, UNREADABLE, UNREADABLE_NUMBER};
 
 /// The characters of a label, question marks where there is none.
+// No `map_or`: what a closure answers is found for numbers, and not for the characters of an array.
 fn characters_of(label: Option<Label>) -> [u8; 6]
     ensures { result ≡ characters_or_marks label }
 {

@@ -29,7 +29,7 @@ impl From<Notice> for u8 {
 }
 
 /// A message to the operator: the number of its kind, and of the request that it is about. The kind is
-/// a number, since this record leaves the server, and a slot that a host lends may hold any.
+/// a number, since this record leaves the server as it is, and a host may lend slots that hold any.
 #[derive(Clone, Copy, PartialEq, Eq, Debug)]
 pub struct Message {
     pub kind: u8,

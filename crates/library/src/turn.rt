@@ -25,7 +25,7 @@ impl Progress {
     }
 }
 
-/// Whether a request stays at work or ends.
+/// Whether a request stays at work or ends. No `Result`: neither is a failure.
 #[derive(Drop)]
 pub enum Goes {
     /// It goes on from here.

@@ -1,7 +1,11 @@
 ghost use Rattle.library.specs.Verdicts.{done_with, moved_verdict, refused_by, shown_by, told_state, verdict_of};
+ghost use Rattle.library.specs.States.{state_number};
+ghost use Rattle.library.specs.Verdicts.Shown.{nothing};
 ghost use Rattle.std.specs.Prelude.{◌≡◌};
+ghost use Rattle.stock.specs.Refusals.{detail_of, status_of};
 
 use crate::entries::Entries;
+use crate::state::State;
 use requests::Request;
 use responses::Entry;
 use statuses::Status;
@@ -44,12 +48,12 @@ impl Verdict {
     }
 
     /// Success, telling the server's state.
-    pub fn told(state: u8) -> Verdict
-        ensures { verdict_of result ≡ told_state state }
+    pub fn told(state: State) -> Verdict
+        ensures { verdict_of result ≡ told_state (state_number state) }
     {
         Verdict {
             status: Status::Success,
-            detail: Some(state),
+            detail: Some(u8::from(state)),
             tail: Tail::Nothing,
         }
     }
@@ -66,6 +70,15 @@ impl Verdict {
     }
 }
 
+/// A refusal of the robot or of the stock.
+impl From<Refusal> for Verdict {
+    ghost from_gives = { λ why verdict. verdict_of verdict ≡ refused_by (status_of why) (detail_of why) nothing };
+
+    fn from(why: Refusal) -> Verdict {
+        Verdict::refused(Status::from(why), why.detail(), Tail::Nothing)
+    }
+}
+
 /// The end of a request that moved one cartridge, or did not.
 impl From<Result<Entry, Refusal>> for Verdict {
     ghost from_gives = { λ res verdict. verdict_of verdict ≡ moved_verdict res };
@@ -73,7 +86,7 @@ impl From<Result<Entry, Refusal>> for Verdict {
     fn from(res: Result<Entry, Refusal>) -> Verdict {
         match res {
             Ok(entry) => Verdict::done(Tail::One(entry)),
-            Err(why) => Verdict::refused(Status::from(why), why.detail(), Tail::Nothing),
+            Err(why) => Verdict::from(why),
         }
     }
 }

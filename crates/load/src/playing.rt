@@ -3,6 +3,7 @@ use crate::site::{Spot, places_of};
 use crate::tally::{NO_CALLS, Tally};
 use bay::bay::Bay;
 use library::slots::{BLANK_MESSAGE, BLANK_REQUEST, MESSAGE_SLOTS, REQUEST_SLOTS};
+use robots::making::Unmade;
 use robots::robot::Robot;
 use server::refusal::CallRefusal;
 use server::serving::Serving;
@@ -12,8 +13,8 @@ use tag_frame::frame::TagFrame;
 /// A start over 256 places, which is the longest request, needs fewer steps.
 const MOST_STEPS: u16 = 300;
 
-/// What C is told, which has no `Option`: how many calls were made, and the sum of what they told; or that the site or the
-/// server could not be made.
+/// What C is told: how many calls were made, and the sum of what they told; or, by a flag since C has no
+/// `Option`, that the site or the server could not be made.
 #[derive(Clone, Copy)]
 #[repr(C)]
 pub struct Outcome {
@@ -45,7 +46,7 @@ impl<R: Robot> Player<'_, R> {
                     self.tally.hear(0, response);
                     length
                 }
-                // No length is above 2,048, which the types here do not say.
+                // Not met: no length is above 2,048, but a result that is passed on does not say so.
                 None => 0,
             },
             Err(why) => {
@@ -120,13 +121,17 @@ impl<R: Robot> Player<'_, R> {
     }
 }
 
+/// Makes the calls to a new server over the robot, if that was made.
 fn play<R: Robot + Drop>(
     heap: Global,
-    robot: R,
+    made: Result<R, Unmade>,
     slots: usize,
     script: &[u8],
     rounds: u32,
 ) -> Outcome {
+    let Ok(robot) = made else {
+        return UNMADE;
+    };
     let mut requests = [BLANK_REQUEST; REQUEST_SLOTS];
     let mut messages = [BLANK_MESSAGE; MESSAGE_SLOTS];
     let slots = slots.min(REQUEST_SLOTS);
@@ -164,14 +169,10 @@ pub extern "C" fn cartridge_play(
         return UNMADE;
     };
     if tagged {
-        match TagFrame::new(heap, &places, hand) {
-            Ok(frame) => play(heap, frame, slots, script, rounds),
-            Err(_) => UNMADE,
-        }
+        let made = TagFrame::new(heap, &places, hand);
+        play(heap, made, slots, script, rounds)
     } else {
-        match Bay::new(heap, &places, hand) {
-            Ok(bay) => play(heap, bay, slots, script, rounds),
-            Err(_) => UNMADE,
-        }
+        let made = Bay::new(heap, &places, hand);
+        play(heap, made, slots, script, rounds)
     }
 }

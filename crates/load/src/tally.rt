@@ -1,4 +1,4 @@
-/// A sum over all that a server tells; what is told in another order gives another sum.
+/// A sum, for C, over the numbers and bytes of all that a server tells; what is told in another order gives another sum.
 #[derive(Clone, Copy)]
 pub struct Tally {
     pub calls: u64,

@@ -2,7 +2,8 @@
 
 ghost use Rattle.library.specs.Cores.{library_of};
 ghost use Rattle.receipt.specs.Checking.{body_refusal, can_cancel, cancel_refusal, drive_online, drive_refusal, drive_there, idle_refusal, is_so, refusal_of, served, start_refusal, vary_refusal};
-ghost use Rattle.std.specs.Prelude.{◌≡◌};
+ghost use Rattle.receipt.specs.declared.refusal.NotReceived.TheVariants.{NoDrive};
+ghost use Rattle.std.specs.Prelude.{◌≡◌, if◌then◌else◌, Ok, Err};
 ghost use Rattle.std.specs.Result.{result_err};
 
 use crate::refusal::NotReceived;
@@ -73,13 +74,22 @@ fn check_cancel<R: Robot>(core: &Core<R>, target: u16) -> Result<(), NotReceived
     }
 }
 
+/// The place of the drive, if there is such a drive.
+fn drive_place<R: Robot>(core: &Core<R>, drive: u8) -> Result<u16, NotReceived>
+    ensures { result ≡ (if drive_there (library_of core.now) drive then Ok drive else Err (NoDrive drive)) }
+{
+    let place = u16::from(drive);
+    if core.stock.is_of(Kind::Drive, place) {
+        Ok(place)
+    } else {
+        Err(NotReceived::NoDrive(place))
+    }
+}
+
 fn check_drive<R: Robot>(core: &Core<R>, drive: u8) -> Result<(), NotReceived>
     ensures { result_err result ≡ drive_refusal (drive_there (library_of core.now) drive) (drive_online (library_of core.now) drive) drive }
 {
-    let place = u16::from(drive);
-    if !core.stock.is_of(Kind::Drive, place) {
-        return Err(NotReceived::NoDrive(place));
-    }
+    let place = drive_place(core, drive)?;
     if is_online(core, drive) {
         Ok(())
     } else {
@@ -87,13 +97,14 @@ fn check_drive<R: Robot>(core: &Core<R>, drive: u8) -> Result<(), NotReceived>
     }
 }
 
-fn check_vary<R: Robot>(core: &Core<R>, drive: u8, setting: DriveSetting) -> Result<(), NotReceived>
+fn check_vary<R: Robot>(
+    core: &Core<R>,
+    drive: u8,
+    setting: DriveSetting,
+) -> Result<(), NotReceived>
     ensures { result_err result ≡ vary_refusal (drive_there (library_of core.now) drive) (is_so setting (drive_online (library_of core.now) drive)) drive }
 {
-    let place = u16::from(drive);
-    if !core.stock.is_of(Kind::Drive, place) {
-        return Err(NotReceived::NoDrive(place));
-    }
+    let _ = drive_place(core, drive)?;
     if is_so(setting, is_online(core, drive)) {
         Err(NotReceived::AlreadySo)
     } else {

@@ -24,7 +24,7 @@ use statuses::Status;
 use stock::refusal::Refusal;
 use stock::stock::movements::{entry_for, located};
 
-/// What a received request is answered.
+/// What a received request is answered. No `Result`: neither is a failure.
 #[derive(Drop)]
 pub enum Answer {
     /// It was queued.
@@ -130,7 +130,7 @@ fn query<R: Robot>(core: &Core<R>, label: Option<Label>) -> Verdict
     ensures { verdict_of result ≡ queried label (library_of core.now) }
 {
     match label {
-        None => Verdict::told(u8::from(core.state)),
+        None => Verdict::told(core.state),
         Some(label) => Verdict::from(find(core, label)),
     }
 }

@@ -17,6 +17,7 @@ whole_by Short f = Err cause.Short
 whole_by Long f = Err cause.Long
 whole_by Exact f = Ok f
 
+-- The same of a packet taken apart.
 abbrev pub whole : Taken → Result Fields Cause
 whole t = whole_by t.ending t.fields
 

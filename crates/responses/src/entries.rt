@@ -10,7 +10,7 @@ ghost use Rattle.responses.specs.Responses.{count_of, listed, most_entries};
 
 use crate::cartridges::take_cartridge;
 use crate::items::{Item, put_all};
-use crate::naming::status_named;
+use crate::known::known_status;
 use crate::{Entry, MOST_ENTRIES};
 use byte_fields::{Field, Writer};
 use labels::six_for;
@@ -64,7 +64,7 @@ fn take_entry(bytes: &[u8]) -> Option<(Entry, &[u8])>
         cartridge,
         from: *from,
         to: *to,
-        status: status_named(*code)?,
+        status: known_status(*code)?,
     };
     Some((entry, rest))
 }

@@ -9,6 +9,7 @@ ghost use Rattle.byte_fields.specs.Taking.{seen};
 ghost use Rattle.responses.specs.Reading.{bits_of, gathered, inventory_off, maybe, place_off, seen_list};
 ghost use Rattle.responses.specs.Responses.{count_of, listed, most_places};
 
+use crate::MOST_PLACES;
 use crate::cartridges::take_cartridge;
 use crate::items::{Item, put_all};
 use byte_fields::Writer;
@@ -102,9 +103,8 @@ fn take_inventory<'b>(bytes: &'b [u8], places: &mut [u32]) -> Option<&'b [u8]>
 pub(crate) fn take_places<'a, 'b>(
     there: bool,
     bytes: &'b [u8],
-    places: &'a mut [u32],
+    places: &'a mut [u32; MOST_PLACES],
 ) -> Option<(Option<&'a [u32]>, &'b [u8])>
-    requires { length places.old ≡ most_places }
     ensures { seen_list result ≡ maybe there inventory_off bytes.now }
 {
     if !there {

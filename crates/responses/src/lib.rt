@@ -12,7 +12,7 @@ mod entries;
 mod examples;
 mod inventories;
 mod items;
-mod naming;
+mod known;
 mod reading;
 mod writing;
 
@@ -70,7 +70,7 @@ impl TryFrom<u8> for ResponseKind {
     }
 }
 
-/// What became of one cartridge.
+/// What became of one cartridge. The default is a blank one, for memory that is not used yet.
 #[derive(Clone, Copy, PartialEq, Eq, Debug, Default)]
 pub struct Entry {
     pub cartridge: u32,

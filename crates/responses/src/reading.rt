@@ -7,7 +7,7 @@ ghost use Rattle.responses.specs.RoundTrips.{WrittenBack};
 
 use crate::entries::take_entries;
 use crate::inventories::take_places;
-use crate::naming::status_named;
+use crate::known::known_status;
 use crate::writing::layer_code;
 use crate::{Entry, Head, MOST_ENTRIES, MOST_PLACES, Response, ResponseKind};
 use byte_fields::{Field, has, take};
@@ -21,7 +21,7 @@ fn take_head(map: u8, bytes: &[u8]) -> Option<(Head, &[u8])>
     let (kind, rest) = take::<u8>(map, 4, rest)?;
     let kind = ResponseKind::try_from(kind?).ok()?;
     let (status, rest) = take::<u8>(map, 8, rest)?;
-    let status = status_named(status?)?;
+    let status = known_status(status?)?;
     let (layer, rest) = take::<u8>(map, 16, rest)?;
     if layer != layer_code(status) {
         return None;

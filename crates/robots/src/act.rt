@@ -59,7 +59,7 @@ pub fn ask<Q: Questions>(robot: &Q, question: Question) -> Reply
     }
 }
 
-/// Makes the call that the act names.
+/// Makes the call that the act names. What `perform` says of the cartridges follows from these clauses.
 fn call<R: Robot>(robot: &mut R, act: Act) -> Answer
     ensures answer { result ≡ act_answer (R.Questions.meaning robot.old) act }
     ensures after { R.Questions.meaning robot.new ≡ acted (R.Questions.meaning robot.old) act }

@@ -12,8 +12,9 @@ use crate::ladders::{may_lift, may_put, may_set, may_switch, may_take};
 use crate::place::Place;
 use crate::robot::{Questions, Robot};
 
-/// Says that an act was granted. Only the acts below make one, so nothing else changes what is kept.
-#[derive(Clone, Copy)]
+/// Says that an act was granted. Only the acts below make one, and they lend it: a keeper cannot keep it
+/// for later, so nothing but an act changes what is kept.
+#[derive(Drop)]
 pub struct Granted {
     granted: (),
 }
@@ -38,14 +39,14 @@ pub trait Keeper {
 
     /// Place p and the hand now hold these.
     // A number stays a plain `u32`, with its bound here: a caller of `put` may give any, and wrong ones are refused.
-    fn store(&mut self, granted: Granted, p: u16, number: u32, hand: u32)
+    fn store(&mut self, granted: &Granted, p: u16, number: u32, hand: u32)
         requires within { p < count (kept self.old) }
         requires numbered { number ≤ unreadable_number }
         requires handed { hand ≤ unreadable_number }
         ensures { kept self.new ≡ with_held (kept self.old) p number hand };
 
     /// Place p is now in service, or out of it.
-    fn turn(&mut self, granted: Granted, p: u16, on: bool)
+    fn turn(&mut self, granted: &Granted, p: u16, on: bool)
         requires { p < count (kept self.old) }
         ensures { kept self.new ≡ with_service (kept self.old) p on };
 
@@ -81,31 +82,31 @@ impl<K: Keeper> Questions for K {
 impl<K: Keeper> Robot for K {
     fn lift(&mut self, p: u16) -> Result<u32, Fault> {
         let number = may_lift(self, p)?;
-        self.store(GRANTED, p, 0, number);
+        self.store(&GRANTED, p, 0, number);
         Ok(number)
     }
 
     fn set(&mut self, p: u16) -> Result<(), Fault> {
         may_set(self, p)?;
-        self.store(GRANTED, p, self.hand(), 0);
+        self.store(&GRANTED, p, self.hand(), 0);
         Ok(())
     }
 
     fn put(&mut self, p: u16, number: u32) -> Result<(), Fault> {
         may_put(self, p, number)?;
-        self.store(GRANTED, p, number, self.hand());
+        self.store(&GRANTED, p, number, self.hand());
         Ok(())
     }
 
     fn take(&mut self, p: u16) -> Result<u32, Fault> {
         let number = may_take(self, p)?;
-        self.store(GRANTED, p, 0, self.hand());
+        self.store(&GRANTED, p, 0, self.hand());
         Ok(number)
     }
 
     fn switch(&mut self, p: u16, on: bool) -> Result<(), Fault> {
         may_switch(self, p)?;
-        self.turn(GRANTED, p, on);
+        self.turn(&GRANTED, p, on);
         Ok(())
     }
 }

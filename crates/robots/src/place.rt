@@ -7,7 +7,7 @@ use crate::kind::Kind;
 #[derive(Clone, Copy, PartialEq, Eq, Debug)]
 pub struct Place {
     pub kind: Kind,
-    /// The number of the cartridge that it holds, or 0.
+    /// The number of the cartridge that it holds, or 0: robots and people give and get numbers, and 0 is none.
     pub cartridge: u32,
     pub in_service: bool,
 }

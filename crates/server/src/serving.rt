@@ -22,7 +22,8 @@ impl<'a, R: Robot> Model for Serving<'a, R> {
     ghost view = { λ s. library_of s.core };
 }
 
-/// A library whose door is open: hands reach every place, and no packet comes in.
+/// A library whose door is open: hands reach every place, and no packet comes in. It is a type of its own and
+/// no flag, so that it has no call for what it cannot do.
 #[derive(Drop)]
 pub(crate) struct Open<'a, R: Robot> {
     core: Core<'a, R>,

@@ -8,7 +8,7 @@ ghost use Rattle.std.specs.Prelude.{◌≡◌, ◌==◌, Decides};
 
 mod words;
 
-/// How a request ended, or why it was refused.
+/// How a request ended, or why it was refused. The default is what a blank entry has.
 #[derive(Clone, Copy, PartialEq, Eq, Debug, Default)]
 pub enum Status {
     #[default]
@@ -116,7 +116,7 @@ impl TryFrom<u8> for Status {
 }
 
 impl Status {
-    /// Whether both are one and the same.
+    /// Whether both are one and the same: what the derived comparison decides, as a contract.
     pub fn is(self, other: Status) -> bool
         ensures value { result ≡ (status_number self == status_number other) }
         ensures decides { Decides result (self ≡ other) }

@@ -14,7 +14,6 @@ use library::turn::{Goes, Progress, Turn};
 use library::verdict::{Tail, Verdict};
 use requests::Body;
 use robots::robot::Robot;
-use statuses::Status;
 use stock::stock::Stock;
 
 /// Nothing is told, and the state stays.
@@ -81,10 +80,7 @@ fn take_start<R: Robot>(stock: &mut Stock<R>, state: State) -> Turn
 {
     match stock.begin() {
         Ok(()) => quiet(state, Goes::Stays(Progress::start())),
-        Err(why) => quiet(
-            State::Idle,
-            Goes::Ends(Verdict::refused(Status::from(why), why.detail(), Tail::Nothing)),
-        ),
+        Err(why) => quiet(State::Idle, Goes::Ends(Verdict::from(why))),
     }
 }
 

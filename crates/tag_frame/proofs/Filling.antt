@@ -1,4 +1,4 @@
--- A table that is filled place by place.
+-- A list that is filled place by place.
 use Rattle.std.proofs.Common.{◌≡◌, ℕ, zero, suc, ◌+◌, ◌≤◌, List, [], ◌∷◌, map, length, get_or, set, replicate, sym, refl, ap, add-one, arith}
 use Rattle.robots.specs.declared.place.Place.{Place}
 use Rattle.robots.specs.Making.{place_cartridge}

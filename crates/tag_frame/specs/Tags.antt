@@ -23,9 +23,10 @@ tidy n (t ∷ ts) = nat_lt t.place n && (is_cartridge_number t.number && (absent
 abbrev pub held_of : ℕ → List Tag → List ℕ
 held_of n ts = map (lookup ts) (range_with_len 0 n)
 
--- The list without what is at p, and with this cartridge there instead; a number of 0 is none.
+-- The list without what is at p. Below, a number of 0 is no cartridge.
 abbrev pub all_but : ℕ → List Tag → List Tag
 all_but p ts = filter (λ t. not (t.place == p)) ts
 
+-- The list with this cartridge there instead.
 abbrev pub retagged : List Tag → ℕ → ℕ → List Tag
 retagged ts p number = cond (number == 0) (all_but p ts) (all_but p ts ++ (record { number = number; place = p }) ∷ [])

@@ -13,13 +13,7 @@ fn advance(ring: &mut Ring<u8>, times: usize) {
 
 /// Adds 0, 1, 2 and so on until the ring is full, and tells how many went in.
 fn fill(ring: &mut Ring<u8>) -> usize {
-    let mut accepted: usize = 0;
-    for record in 0..9u8 {
-        if ring.push(record).is_ok() {
-            accepted = accepted.saturating_add(1);
-        }
-    }
-    accepted
+    (0..9u8).filter(|record| ring.push(*record).is_ok()).count()
 }
 
 /// Whether the records are 0, 1, 2 and so on, by number and as they leave.

@@ -20,6 +20,7 @@ impl Bay {
     }
 }
 
+// Indices are made by `as`: one by `From` has an equation that each proof would have to carry.
 impl Keeper for Bay {
     ghost kept = { bay_meaning };
 
@@ -37,12 +38,12 @@ impl Keeper for Bay {
         self.places.get(p as usize).copied()
     }
 
-    fn store(&mut self, _: Granted, p: u16, number: u32, hand: u32) {
+    fn store(&mut self, _: &Granted, p: u16, number: u32, hand: u32) {
         self.places[p as usize].cartridge = number;
         self.hand = hand;
     }
 
-    fn turn(&mut self, _: Granted, p: u16, on: bool) {
+    fn turn(&mut self, _: &Granted, p: u16, on: bool) {
         self.places[p as usize].in_service = on;
     }
 }

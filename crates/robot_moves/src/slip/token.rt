@@ -7,11 +7,23 @@ pub struct Token<T> {
     of: T,
 }
 
-/// The token for a cartridge that was lifted: it has the place that it was lifted from.
-pub type Slip = Token<u16>;
+/// A cartridge that was lifted, by its place.
+#[derive(Clone, Copy)]
+pub struct Lifted {
+    pub from: u16,
+}
 
-/// The token for a cartridge that was in the hand before: it has its number.
-pub type Found = Token<u32>;
+/// A cartridge that was in the hand before, by its number.
+#[derive(Clone, Copy)]
+pub struct InHand {
+    pub cartridge: u32,
+}
+
+/// The token for a cartridge that was lifted.
+pub type Slip = Token<Lifted>;
+
+/// The token for a cartridge that was in the hand before.
+pub type Found = Token<InHand>;
 
 impl<T> Token<T> {
     pub(super) fn new(of: T) -> Token<T>

@@ -94,6 +94,7 @@ impl<'a, R: Robot> Serving<'a, R> {
         if buffer.len() < RESPONSE_ROOM {
             return Err(CallRefusal::ShortBuffer);
         }
+        // No response is empty, so 0 says that nothing was written.
         match step(&mut self.core) {
             None => Ok(0),
             Some(ended) => Ok(send_final(&self.core, &ended, buffer).length),

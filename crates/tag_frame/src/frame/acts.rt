@@ -50,6 +50,7 @@ impl TagFrame {
     }
 }
 
+// Indices are made by `as`: one by `From` has an equation that each proof would have to carry.
 impl Keeper for TagFrame {
     ghost kept = { frame_meaning };
 
@@ -80,11 +81,11 @@ impl Keeper for TagFrame {
         })
     }
 
-    fn store(&mut self, _: Granted, p: u16, number: u32, hand: u32) {
+    fn store(&mut self, _: &Granted, p: u16, number: u32, hand: u32) {
         self.hold(p, number, hand);
     }
 
-    fn turn(&mut self, _: Granted, p: u16, on: bool) {
+    fn turn(&mut self, _: &Granted, p: u16, on: bool) {
         self.sites[p as usize].in_service = on;
     }
 }
