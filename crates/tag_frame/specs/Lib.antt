@@ -1,4 +1,5 @@
 pub mod Tags
+pub mod Tables
 pub mod Sites
 pub mod Frames
 pub mod Tagged

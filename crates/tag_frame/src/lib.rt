@@ -4,4 +4,5 @@
 
 pub mod frame;
 mod site;
+mod table;
 mod tag;

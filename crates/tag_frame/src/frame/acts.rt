@@ -1,8 +1,8 @@
-ghost use Rattle.std.specs.Prelude.{◌≡◌, ◌<◌, ◌≤◌, length};
+ghost use Rattle.std.specs.Prelude.{◌≡◌, ◌<◌, ◌≤◌};
 ghost use Rattle.labels.specs.Numbers.{unreadable_number};
 ghost use Rattle.robots.specs.Acts.{with_held};
 ghost use Rattle.robots.specs.Making.{Made};
-ghost use Rattle.robots.specs.Meaning.{count, held_at};
+ghost use Rattle.robots.specs.Meaning.{count};
 ghost use Rattle.tag_frame.specs.Frames.{frame_meaning};
 ghost use Rattle.std.proofs.Common.{◌∙◌, arith};
 ghost use Rattle.std.proofs.lemmas.List.{length-map};
@@ -10,11 +10,12 @@ ghost use Rattle.tag_frame.specs.Tagged.{held_length, held_number};
 
 use super::TagFrame;
 use crate::site::sites_of;
-use crate::tag::{number_in, retag};
+use crate::table::Table;
 use robots::keeper::{Granted, Keeper};
 use robots::making::{Unmade, check_places};
 use robots::place::Place;
 use std::alloc::Global;
+use std::mem;
 
 impl TagFrame {
     /// A tag frame with these places, and this in its hand.
@@ -23,30 +24,24 @@ impl TagFrame {
     {
         check_places(places, hand)?;
         let sites = sites_of(heap, places)?;
-        let tags = Vec::with_capacity(heap, places.len())?;
-        let mut frame = TagFrame { sites, tags, hand };
+        let table = Table::empty(heap, places.len() as u16)?;
+        let mut frame = TagFrame { sites, table, hand };
         for (p, place) in places.iter().enumerate() {
             frame.hold(p as u16, place.cartridge, hand);
         }
         Ok(frame)
     }
 
-    /// Place p and the hand now hold these.
+    /// Place p and the hand now hold these. The table is changed by value, and written back whole.
     fn hold(&mut self, p: u16, number: u32, hand: u32)
         requires within { p < count (frame_meaning self.old) }
         requires numbered { number ≤ unreadable_number }
         requires handed { hand ≤ unreadable_number }
         ensures { frame_meaning self.new ≡ with_held (frame_meaning self.old) p number hand }
     {
-        retag(&mut self.tags, p, number);
+        let table = mem::replace(&mut self.table, Table::none(*self.sites.allocator()));
+        self.table = table.with(p, number);
         self.hand = hand;
-    }
-
-    /// The number of the cartridge at p, or 0.
-    fn number_at(&self, p: u16) -> u32
-        ensures { result ≡ held_at (frame_meaning self.now) p }
-    {
-        number_in(&self.tags, p)
     }
 }
 
@@ -55,13 +50,13 @@ impl Keeper for TagFrame {
     ghost kept = { frame_meaning };
 
     ghost sound = { λ f.
-        let n = length f.sites.items in
-        let ts = f.tags.items in
+        let n = f.table.count in
+        let ts = f.table.tags.items in
         record {
           few = simp length-map (omega (arith, f.sites.ok.0, f.few));
-          held_length = held_length n ts ∙ simp length-map;
+          held_length = held_length n ts ∙ simp length-map (omega (arith, f.sites.ok.0, f.tabled));
           service_length = simp length-map;
-          held_numbers = λ p. held_number n ts p f.distinct;
+          held_numbers = λ p. held_number n ts p f.table.distinct;
           hand_number = f.handed;
         } };
 
@@ -76,7 +71,7 @@ impl Keeper for TagFrame {
     fn place(&self, p: u16) -> Option<Place> {
         self.sites.get(p as usize).map(|site| Place {
             kind: site.kind,
-            cartridge: self.number_at(p),
+            cartridge: self.table.number_at(p),
             in_service: site.in_service,
         })
     }
