@@ -97,11 +97,7 @@ fn check_drive<R: Robot>(core: &Core<R>, drive: u8) -> Result<(), NotReceived>
     }
 }
 
-fn check_vary<R: Robot>(
-    core: &Core<R>,
-    drive: u8,
-    setting: DriveSetting,
-) -> Result<(), NotReceived>
+fn check_vary<R: Robot>(core: &Core<R>, drive: u8, setting: DriveSetting) -> Result<(), NotReceived>
     ensures { result_err result ≡ vary_refusal (drive_there (library_of core.now) drive) (is_so setting (drive_online (library_of core.now) drive)) drive }
 {
     let _ = drive_place(core, drive)?;
