@@ -13,6 +13,7 @@ pub fn has(map: u8, worth: u8) -> bool
 }
 
 /// The field whose bit is worth `worth`, if it stands in the map, and the bytes behind it.
+// Map and bytes are handed on, and no reader is changed in place: so what is left is seen at each step.
 pub fn take<F: Field>(map: u8, worth: u8, bytes: &[u8]) -> Option<(Option<F>, &[u8])>
     ensures { seen result ≡ F.off (has_bit map worth) bytes.now }
 {

@@ -17,6 +17,7 @@ pub struct Work {
 }
 
 /// All that a library has, whether its door is open or shut.
+// No model: other crates read and write its fields.
 #[derive(Drop)]
 pub struct Core<'a, R: Robot> {
     pub stock: Stock<R>,

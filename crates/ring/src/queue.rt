@@ -8,6 +8,7 @@ mod slots;
 ///
 /// Its host lends the memory, so it is no collection of the library. It uses the first `capacity` of the
 /// slots. The oldest record stands at `head`, or at 0 where `head` is `capacity`.
+// No model: what its calls say of slots out of use is no part of a list of records.
 #[derive(Drop)]
 pub struct Ring<'a, T> {
     slots: &'a mut [T],

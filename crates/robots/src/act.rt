@@ -7,7 +7,8 @@ use crate::fault::Fault;
 use crate::kind::Kind;
 use crate::robot::{Questions, Robot};
 
-/// Something to ask of a robot.
+/// Something to ask of a robot. A value, since what holds of all robots is said of every question, and below
+/// of every act.
 #[derive(Clone, Copy, PartialEq, Eq, Debug)]
 pub enum Question {
     Places,
