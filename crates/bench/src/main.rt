@@ -3,8 +3,6 @@
 
 #![tactic(auto)]
 
-ghost use Rattle.std.specs.Prelude.{◌≤◌};
-
 use anyhow::anyhow;
 use bay::bay::Bay;
 use labels::Label;
@@ -20,7 +18,6 @@ const MOST_STEPS: u32 = 100;
 
 fn print_hex(rt: HostRuntime, bytes: &[u8]) -> io::Result<()> {
     for byte in bytes {
-        let byte = *byte;
         print!(rt; "{byte:02X}")?;
     }
     println!(rt; "")
@@ -58,9 +55,7 @@ fn session(rt: HostRuntime) -> anyhow::Result<()> {
     let mut requests = [BLANK_REQUEST; REQUEST_SLOTS];
     let mut messages = [BLANK_MESSAGE; MESSAGE_SLOTS];
     let mut library = Serving::new(rt.alloc(), bay, &mut requests, &mut messages)?;
-    let Ok(label) = Label::new(*b"ABC123") else {
-        return Err(anyhow!("not a label"));
-    };
+    let label = Label::new(*b"ABC123")?;
     library.put(0, label.number())?;
     ask(rt, &mut library, &[0x03, 0x00, 0x01, 0x09])?;
     ask(rt, &mut library, &[0x03, 0x00, 0x02, 0x05])?;

@@ -1,4 +1,3 @@
-pub mod Cuts
 pub mod Overs
 pub mod Back
 pub mod Forth

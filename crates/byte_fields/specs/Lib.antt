@@ -1,2 +1,4 @@
 pub mod Taking
 pub mod Putting
+pub mod Again
+pub mod Writers

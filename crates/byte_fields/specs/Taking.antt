@@ -34,6 +34,11 @@ abbrev pub seen : {X : Type 0} → Option (X × Bor (List ℕ)) → Option (X ×
 seen None = None
 seen (Some p) = Some (p.0, p.1.now)
 
+-- The same of a function that cuts off a field that has to be there.
+abbrev pub found : {X : Type 0} → Option (X × Bor (List ℕ)) → Option (Option X × List ℕ)
+found None = None
+found (Some p) = Some (Some p.0, p.1.now)
+
 -- Each is a byte.
 abbrev pub Bytes : List ℕ → Type 0
 Bytes [] = Unit {0}

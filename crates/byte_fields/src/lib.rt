@@ -4,8 +4,10 @@
 
 #![tactic(auto)]
 
+mod fields;
 mod putting;
 mod taking;
 
-pub use putting::{put, put_one, put_six, put_two};
-pub use taking::{has, take_one, take_six, take_two};
+pub use fields::Field;
+pub use putting::Writer;
+pub use taking::{has, take};

@@ -1,71 +1,58 @@
-//! Fields put into a buffer from a place on, each only if it is there. Each function says where
-//! the next field goes; one that does not fit is not written, and the place stays.
+//! A buffer that is written from the front on.
 
-ghost use Rattle.std.specs.Prelude.{◌≡◌, ◌+◌, ◌<◌, ◌≤◌, length, Some, nat_le};
-ghost use Rattle.byte_fields.specs.Putting.{Wrote, one_bytes, six_bytes, two_bytes};
+ghost use Rattle.std.specs.Prelude.{◌≡◌, ◌+◌, ◌<◌, ◌≤◌, length};
 
-/// Whether `count` bytes from `at` on stand in a buffer of `room` bytes.
-fn has_room(room: usize, at: usize, count: usize) -> bool
-    ensures { result ≡ nat_le (at + count) room }
-{
-    at <= room && count <= room - at
+use crate::fields::Field;
+
+/// A buffer, and how many of its bytes are written. What does not fit behind them is left out.
+#[derive(Drop)]
+pub struct Writer<'a> {
+    buffer: &'a mut [u8],
+    at: usize,
+    ghost within: { at ≤ length buffer.now },
 }
 
-/// The two bytes of a number, the high one first.
-fn bytes_of(n: u16) -> [u8; 2]
-    ensures { result ≡ two_bytes (Some n) }
-{
-    [(n / 256) as u8, (n % 256) as u8]
-}
+impl<'a> Writer<'a> {
+    ghost use Rattle.byte_fields.specs.Writers.{Put};
 
-/// The bytes as they are.
-pub fn put(buffer: &mut [u8], at: usize, bytes: &[u8]) -> usize
-    ensures wrote { at + length bytes.now ≤ length buffer.old → Wrote at bytes.now buffer.old buffer.new result }
-    ensures full { length buffer.old < at + length bytes.now → (buffer.new ≡ buffer.old) × (result ≡ at) }
-    ensures bound { result ≤ at + length bytes.now }
-{
-    if !has_room(buffer.len(), at, bytes.len()) {
-        return at;
+    /// Nothing is written yet.
+    pub fn new(buffer: &'a mut [u8]) -> Writer<'a>
+        ensures same { result.buffer.ghost_name ≡ buffer.entry.ghost_name }
+        ensures holds { result.buffer.now ≡ buffer.old }
+        ensures at { result.at ≡ 0 }
+    {
+        Writer { buffer, at: 0 }
     }
-    let end = at + bytes.len();
-    let part = &mut buffer[at..end];
-    part.copy_from_slice(bytes);
-    end
-}
 
-/// One byte.
-pub fn put_one(buffer: &mut [u8], at: usize, field: Option<u8>) -> usize
-    ensures wrote { at + length (one_bytes field) ≤ length buffer.old → Wrote at (one_bytes field) buffer.old buffer.new result }
-    ensures full { length buffer.old < at + length (one_bytes field) → (buffer.new ≡ buffer.old) × (result ≡ at) }
-    ensures bound { result ≤ at + 1 }
-{
-    match field {
-        Some(b) => put(buffer, at, &[b]),
-        None => at,
+    /// How many bytes are written.
+    pub fn len(&self) -> usize
+        ensures { result ≡ self.now.at }
+    {
+        self.at
     }
-}
 
-/// A number of two bytes, the high one first.
-pub fn put_two(buffer: &mut [u8], at: usize, field: Option<u16>) -> usize
-    ensures wrote { at + length (two_bytes field) ≤ length buffer.old → Wrote at (two_bytes field) buffer.old buffer.new result }
-    ensures full { length buffer.old < at + length (two_bytes field) → (buffer.new ≡ buffer.old) × (result ≡ at) }
-    ensures bound { result ≤ at + 2 }
-{
-    match field {
-        Some(n) => put(buffer, at, &bytes_of(n)),
-        None => at,
+    /// The bytes as they are.
+    pub fn put(&mut self, bytes: &[u8])
+        ensures put { Put bytes.now self.old self.new }
+        ensures bound { self.new.at ≤ self.old.at + length bytes.now }
+    {
+        if bytes.len() > self.buffer.len() - self.at {
+            return;
+        }
+        let end = self.at + bytes.len();
+        let part = &mut self.buffer[self.at..end];
+        part.copy_from_slice(bytes);
+        self.at = end;
     }
-}
 
-/// Six bytes.
-pub fn put_six(buffer: &mut [u8], at: usize, field: Option<[u8; 6]>) -> usize
-    ensures wrote { at + length (six_bytes field) ≤ length buffer.old → Wrote at (six_bytes field) buffer.old buffer.new result }
-    ensures full { length buffer.old < at + length (six_bytes field) → (buffer.new ≡ buffer.old) × (result ≡ at) }
-    ensures bound { result ≤ at + 6 }
-    ensures width { length (six_bytes field) ≤ 6 }
-{
-    match field {
-        Some(six) => put(buffer, at, &six),
-        None => at,
+    /// A field, if it is there.
+    pub fn put_field<F: Field>(&mut self, field: Option<F>)
+        ensures put { Put (F.bytes field) self.old self.new }
+        ensures bound { self.new.at ≤ self.old.at + F.width }
+        ensures width { length (F.bytes field) ≤ F.width }
+    {
+        if let Some(value) = field {
+            value.put(self);
+        }
     }
 }

@@ -7,9 +7,10 @@ ghost use Rattle.std.specs.Prelude.{◌≡◌};
 use requests::{Outline, inspect};
 use statuses::Status;
 
-/// What C is told of a packet. A value that is not there is 0. The order of the fields leaves no
-/// gap between them, so that the record is returned in one register.
-#[derive(Clone, Copy)]
+/// What C is told of a packet. C has no `Option`, so a flag stands beside each value, and a value that is not
+/// there is 0. The order of the fields leaves no gap between them, so that the record is returned in one
+/// register.
+#[derive(Clone, Copy, PartialEq, Eq, Debug)]
 #[repr(C)]
 pub struct Checked {
     pub status: u8,
@@ -26,10 +27,10 @@ fn tell(outline: Outline) -> Checked
 {
     let (status, detail) = match outline.fault {
         Ok(()) => (Status::Success, None),
-        Err(cause) => (cause.status(), cause.detail()),
+        Err(cause) => (Status::from(cause), cause.detail()),
     };
     Checked {
-        status: status.code(),
+        status: u8::from(status),
         has_detail: detail.is_some(),
         detail: detail.unwrap_or(0),
         has_number: outline.number.is_some(),

@@ -8,8 +8,9 @@ ghost use Rattle.std.specs.Prelude.{◌≡◌, length};
 use requests::{Unwritable, Values, write};
 use statuses::Status;
 
-/// What C is told of a packet that was to be written; the length is 0 where it was not.
-#[derive(Clone, Copy)]
+/// What C is told of a packet that was to be written; the length is 0 where it was not. C has no
+/// `Result`, so the status is a number.
+#[derive(Clone, Copy, PartialEq, Eq, Debug)]
 #[repr(C)]
 pub struct Written {
     pub status: u8,
@@ -21,11 +22,11 @@ fn tell(res: Result<usize, Unwritable>) -> Written
 {
     match res {
         Ok(length) => Written {
-            status: Status::Success.code(),
+            status: u8::from(Status::Success),
             length,
         },
         Err(cause) => Written {
-            status: cause.status().code(),
+            status: u8::from(Status::from(cause)),
             length: 0,
         },
     }

@@ -8,6 +8,9 @@ use Rattle.labels.specs.declared.Label.{Label}
 use Rattle.labels.specs.declared.WrongCharacter.{WrongCharacter}
 use Rattle.labels.specs.Characters.{first_wrong, all_right}
 use Rattle.labels.specs.Numbers.{label_of, highest_number}
+use Rattle.std.specs.Prelude.{ok_or}
+use Rattle.std.specs.Result.{result_ok}
+use Rattle.labels.specs.declared.NoLabel.{NoLabel}
 use Rattle.labels.specs.Labels.{labelled_by, labelled, is_label_number, numbered}
 use Rattle.labels.proofs.Wrongs.{some_none, none_wrong}
 
@@ -59,3 +62,8 @@ wrong_by cs w (Some i) e h = let p : w ≡ record { index = i } = cc in ap (λ (
 -- The index told is that of the first wrong character.
 pub wrong_of : (cs : List ℕ) (w : WrongCharacter) → Err w ≡ labelled cs → Some w.index ≡ first_wrong 0 cs
 wrong_of cs w h = wrong_by cs w (first_wrong 0 cs) refl h
+
+-- What a number is read as tells its label, if it has one.
+pub label_told : (e : NoLabel) (o : Option Label) → result_ok (ok_or o e) ≡ o
+label_told e None = refl
+label_told e (Some l) = refl

@@ -1,9 +1,10 @@
 -- Labels, their cartridge numbers, and the six bytes that stand for a cartridge.
-use Rattle.std.specs.Prelude.{◌≡◌, ℕ, Bool, false, cond, not, List, [], ◌∷◌, is_some, Some, None, Ok, Err, Option, Result, nat_le, refl}
+use Rattle.std.specs.Prelude.{◌≡◌, ℕ, Bool, false, cond, not, List, [], ◌∷◌, is_some, Some, None, Ok, Err, Option, Result, nat_le, refl, MatchResult, ok_or}
 use Rattle.std.proofs.Common.{ap}
 use Rattle.std.specs.Str.{bytes_eq}
 use Rattle.labels.specs.declared.Label.{Label}
 use Rattle.labels.specs.declared.WrongCharacter.{WrongCharacter}
+use Rattle.labels.specs.declared.NoLabel.{NoLabel}
 use Rattle.labels.specs.Characters.{first_wrong}
 use Rattle.labels.specs.Numbers.{number_of, label_of, highest_number, unreadable_number}
 
@@ -27,6 +28,15 @@ is_label_number n = cond (nat_le 1 n) (nat_le n highest_number) false
 -- The label with the number n, if one has it.
 unfoldable pub numbered : ℕ → Option Label
 numbered n = cond (is_label_number n) (label_in (labelled (label_of n))) None
+
+-- The same, with the number where no label has it.
+abbrev pub label_named : ℕ → Result Label NoLabel
+label_named n = ok_or (numbered n) (record { number = n })
+
+-- A read label has the number; a number that is not read is no label's.
+pub record LabelRead (n : ℕ) (read : Result Label NoLabel) : Type 0 where
+  pub is : read ≡ label_named n
+  pub back : MatchResult read (λ l. number_of l.chars ≡ n) (λ _. is_label_number n ≡ false)
 
 -- Six question marks.
 abbrev pub question_marks : List ℕ

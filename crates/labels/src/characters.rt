@@ -1,6 +1,6 @@
 //! Which characters make a label.
 
-ghost use Rattle.std.specs.Prelude.{◌≡◌, ◌≤◌, length};
+ghost use Rattle.std.specs.Prelude.{◌≡◌, ◌≤◌, length, bytes_eq, Decides};
 ghost use Rattle.labels.specs.Characters.{first_wrong, right};
 ghost use Rattle.labels.specs.Labels.{labelled};
 
@@ -18,6 +18,7 @@ fn first_wrong(chars: &[u8]) -> Option<u8>
     requires { length chars.now ≤ 6 }
     ensures { result ≡ first_wrong 0 chars.now }
 {
+    // No `position`: that its index fits a byte would have to be shown by an answer.
     for (i, b) in chars.iter().enumerate() {
         if !is_right(*b) {
             return Some(i as u8);
@@ -35,6 +36,14 @@ impl Label {
             Some(index) => Err(WrongCharacter { index }),
             None => Ok(Label { chars }),
         }
+    }
+
+    /// Whether both are one and the same: what the derived comparison decides, as a contract.
+    pub fn is(&self, other: &Label) -> bool
+        ensures value { result ≡ bytes_eq self.now.chars other.now.chars }
+        ensures decides { Decides result (self.now ≡ other.now) }
+    {
+        self == other
     }
 
     /// The characters.

@@ -1,11 +1,11 @@
 //! The cartridge number of a label, and back.
 
-ghost use Rattle.std.specs.Prelude.{◌≡◌, ◌<◌, true, false, Some, MatchOption};
+ghost use Rattle.std.specs.Prelude.{◌≡◌, ◌<◌, true, Some};
 ghost use Rattle.labels.specs.Characters.{right};
-ghost use Rattle.labels.specs.Labels.{is_label_number, numbered};
+ghost use Rattle.labels.specs.Labels.{LabelRead, is_label_number, numbered};
 ghost use Rattle.labels.specs.Numbers.{character_of, digit_of, number_of};
 
-use crate::{HIGHEST_NUMBER, Label};
+use crate::{HIGHEST_NUMBER, Label, NoLabel};
 
 /// What a right character counts: 0 to 9 as they stand, A as 10.
 fn digit(b: u8) -> u32
@@ -14,9 +14,9 @@ fn digit(b: u8) -> u32
     ensures bound { result < 36 }
 {
     if b <= b'9' {
-        (b - b'0') as u32
+        u32::from(b - b'0')
     } else {
-        (b - b'A') as u32 + 10
+        u32::from(b - b'A') + 10
     }
 }
 
@@ -41,11 +41,14 @@ fn is_label_number(n: u32) -> bool
 }
 
 impl Label {
-    /// The label's cartridge number, from which `of_number` makes the label again.
+    /// The label's cartridge number, from which `try_from` makes the label again.
+    // No `From`: `u32::from(label)` would not say which number.
     pub fn number(&self) -> u32
         ensures is { result ≡ number_of self.now.chars }
         ensures back { numbered result ≡ Some self.now }
     {
+        // Written out, as the six characters of a number are below: a fold is no plainer, since that its
+        // sum fits would have to be kept from character to character.
         let [a, b, c, d, e, f] = self.chars;
         let k = digit(a);
         let k = k * 36 + digit(b);
@@ -55,17 +58,20 @@ impl Label {
         let k = k * 36 + digit(f);
         1 + k
     }
+}
 
-    /// The label with the cartridge number `n`, if a label has it.
-    pub fn of_number(n: u32) -> Option<Label>
-        ensures is { result ≡ numbered n }
-        ensures back { MatchOption result (is_label_number n ≡ false) (λ l. number_of l.chars ≡ n) }
-    {
-        if !is_label_number(n) {
-            return None;
+/// The label with a cartridge number.
+impl TryFrom<u32> for Label {
+    type Error = NoLabel;
+
+    ghost try_from_gives = { LabelRead };
+
+    fn try_from(number: u32) -> Result<Label, NoLabel> {
+        if !is_label_number(number) {
+            return Err(NoLabel { number });
         }
-        let k = n - 1;
-        Some(Label {
+        let k = number - 1;
+        Ok(Label {
             chars: [
                 character(k / 60_466_176),
                 character(k / 1_679_616 % 36),

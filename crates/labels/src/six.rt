@@ -6,6 +6,7 @@ ghost use Rattle.std.specs.Prelude.{◌≡◌, true, IfSome, Some};
 use crate::{Label, UNREADABLE, UNREADABLE_NUMBER};
 
 /// The characters of a label, question marks where there is none.
+// No `map_or`: what a closure answers is found for numbers, and not for the characters of an array.
 fn characters_of(label: Option<Label>) -> [u8; 6]
     ensures { result ≡ characters_or_marks label }
 {
@@ -20,7 +21,7 @@ pub fn six_for(number: u32) -> [u8; 6]
     ensures is { result ≡ six_for number }
     ensures back { is_cartridge_number number ≡ true → number_of_six result ≡ Some number }
 {
-    characters_of(Label::of_number(number))
+    characters_of(Label::try_from(number).ok())
 }
 
 /// The cartridge number that six bytes stand for, if they stand for a cartridge.

@@ -1,10 +1,6 @@
 -- The entries of an enter.
-use Rattle.std.specs.Prelude.{cond, List, [], ◌∷◌, ◌++◌, length, take, nat_lt}
+use Rattle.std.specs.Prelude.{cond, List, [], ◌∷◌, ◌++◌, length, nat_lt}
 use Rattle.responses.specs.declared.Entry.{Entry}
-use Rattle.library.specs.declared.entries.Entries.{Entries}
-
-abbrev pub entries_in : Entries → List Entry
-entries_in e = take e.count e.rows
 
 -- One more, where there is room.
 abbrev pub entries_more : Entry → List Entry → List Entry

@@ -9,4 +9,5 @@ pub mod Finals
 pub mod Turns
 pub mod Making
 pub mod Posting
+pub mod Changes
 pub mod Cores

@@ -48,6 +48,11 @@ cancelled_if false q = q
 abbrev pub cancelled : ℕ → Request → Request
 cancelled t q = cancelled_if (cancels t q) q
 
+-- Whether the request at work meets a condition.
+abbrev pub work_meets : (Request → Bool) → Option Job → Bool
+work_meets p None = false
+work_meets p (Some j) = p j.request
+
 -- A change of the request at work.
 abbrev pub at_work : (Request → Request) → Option Job → Option Job
 at_work f None = None

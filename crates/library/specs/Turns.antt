@@ -7,7 +7,6 @@ use Rattle.library.specs.declared.message.Notice.{Notice}
 use Rattle.library.specs.declared.turn.Turn.{Turn}
 use Rattle.library.specs.declared.turn.Goes.{Goes}
 use Rattle.library.specs.declared.turn.Goes.TheVariants.{Stays, Ends}
-use Rattle.library.specs.Entering.{entries_in}
 use Rattle.library.specs.Verdicts.{Ending, verdict_of}
 
 -- A request stays at work, from a place on and with entries so far, or ends.
@@ -27,7 +26,7 @@ pub record Turned : Type 0 where
   pub course : Course
 
 abbrev pub going_of : Goes → Going
-going_of (Stays p es) = stays p (entries_in es)
+going_of (Stays p) = stays p.next p.entries
 going_of (Ends v) = ends (verdict_of v)
 
 abbrev pub course_of : Turn → Course

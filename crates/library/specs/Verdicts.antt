@@ -8,7 +8,6 @@ use Rattle.stock.specs.Refusals.{status_of, detail_of}
 use Rattle.library.specs.declared.verdict.Verdict.{Verdict}
 use Rattle.library.specs.declared.verdict.Tail.{Tail}
 use Rattle.library.specs.declared.verdict.Tail.TheVariants.{Nothing, One, Many, Inventory}
-use Rattle.library.specs.Entering.{entries_in}
 
 -- What stands behind the status: nothing, entries, or the inventory.
 pub data Shown : Type 0 where
@@ -24,7 +23,7 @@ pub record Ending : Type 0 where
 abbrev pub shown_by : Tail → Shown
 shown_by Nothing = nothing
 shown_by (One e) = listed (e ∷ [])
-shown_by (Many es) = listed (entries_in es)
+shown_by (Many es) = listed es
 shown_by Inventory = inventory
 
 abbrev pub verdict_of : Verdict → Ending

@@ -1,24 +1,25 @@
 use crate::drive::DriveState;
-use crate::entries::Entries;
 use crate::message::Message;
 use crate::state::State;
+use crate::turn::Progress;
 use requests::Request;
 use ring::Ring;
+use robots::robot::Robot;
 use stock::stock::Stock;
 
 pub mod acts;
 
-/// The request at work, the next place that it treats, and its entries so far.
-#[derive(Clone, Copy)]
+/// The request at work, and how far it has come.
+#[derive(Drop)]
 pub struct Work {
     pub request: Request,
-    pub next: u16,
-    pub entries: Entries,
+    pub progress: Progress,
 }
 
 /// All that a library has, whether its door is open or shut.
+// No model: other crates read and write its fields.
 #[derive(Drop)]
-pub struct Core<'a, R> {
+pub struct Core<'a, R: Robot> {
     pub stock: Stock<R>,
     pub waiting: Ring<'a, Request>,
     pub messages: Ring<'a, Message>,

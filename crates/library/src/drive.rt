@@ -2,7 +2,7 @@ ghost use Rattle.library.specs.Drives.{drive_after, is_online};
 ghost use Rattle.std.specs.Prelude.{◌≡◌};
 
 /// Whether a drive may be used.
-#[derive(Clone, Copy)]
+#[derive(Clone, Copy, PartialEq, Eq, Debug)]
 pub enum DriveState {
     Online,
     Offline,
@@ -11,7 +11,7 @@ pub enum DriveState {
 }
 
 /// What happens to a drive; the flag says whether a waiting mount or dismount still names it.
-#[derive(Clone, Copy)]
+#[derive(Clone, Copy, PartialEq, Eq, Debug)]
 pub enum DriveEvent {
     ToOnline,
     ToOffline(bool),
@@ -23,11 +23,7 @@ impl DriveState {
     pub fn is_online(self) -> bool
         ensures { result ≡ is_online self }
     {
-        match self {
-            DriveState::Online => true,
-            DriveState::Offline => false,
-            DriveState::OfflinePending => false,
-        }
+        self == DriveState::Online
     }
 
     /// The next state, which follows from the state and the event alone.

@@ -1,67 +1,16 @@
 //! Marks of requests, and conditions on them.
 
-ghost use Rattle.library.specs.Marks.{aborted, cancelled, cancels, is_unmarked, may_cancel, names_drive};
-ghost use Rattle.std.specs.Prelude.{◌≡◌, ◌==◌};
+ghost use Rattle.library.specs.Marks.{aborted, cancelled, cancels, may_cancel, names_drive};
+ghost use Rattle.std.specs.Prelude.{◌≡◌};
 
 use requests::{Body, Mark, Request};
-use ring::{Change, Condition};
 
-/// The request has this number.
-#[derive(Drop)]
-pub struct Numbered(pub u16);
-
-impl Condition<Request> for Numbered {
-    ghost met = { λ n q. (q.number == n.0) };
-
-    fn is_met(&self, q: Request) -> bool {
-        q.number == self.0
-    }
-}
-
-/// The request is a mount or a dismount that names this drive.
-#[derive(Drop)]
-pub struct Names(pub u8);
-
-impl Condition<Request> for Names {
-    ghost met = { λ d q. names_drive d.0 q.body };
-
-    fn is_met(&self, q: Request) -> bool {
-        match q.body {
-            Body::Mount { label: _, drive } => drive == self.0,
-            Body::Dismount {
-                label: _,
-                drive,
-                force: _,
-            } => drive == self.0,
-            _ => false,
-        }
-    }
-}
-
-/// The request is marked aborted, unless it is marked already.
-#[derive(Drop)]
-pub struct Abort;
-
-impl Change<Request> for Abort {
-    ghost turns = { λ _ q. aborted q };
-
-    fn change(&self, q: Request) -> Request {
-        match q.mark {
-            Mark::Unmarked => Request {
-                number: q.number,
-                mark: Mark::Aborted,
-                body: q.body,
-            },
-            _ => q,
-        }
-    }
-}
-
-fn is_unmarked(mark: Mark) -> bool
-    ensures { result ≡ is_unmarked mark }
+/// Whether the request is a mount or a dismount that names this drive.
+pub fn names_drive(drive: u8, body: Body) -> bool
+    ensures { result ≡ names_drive drive body }
 {
-    match mark {
-        Mark::Unmarked => true,
+    match body {
+        Body::Mount { drive: named, .. } | Body::Dismount { drive: named, .. } => named == drive,
         _ => false,
     }
 }
@@ -70,8 +19,7 @@ fn may_cancel(body: Body) -> bool
     ensures { result ≡ may_cancel body }
 {
     match body {
-        Body::Eject { label: _ } => true,
-        Body::Enter => true,
+        Body::Eject { .. } | Body::Enter => true,
         _ => false,
     }
 }
@@ -80,33 +28,32 @@ fn may_cancel(body: Body) -> bool
 pub fn cancels(target: u16, q: Request) -> bool
     ensures { result ≡ cancels target q }
 {
-    q.number == target && is_unmarked(q.mark) && may_cancel(q.body)
+    q.number == target && q.mark == Mark::Unmarked && may_cancel(q.body)
 }
 
-/// A cancel of this number marks the request.
-#[derive(Drop)]
-pub struct Cancel(pub u16);
-
-impl Condition<Request> for Cancel {
-    ghost met = { λ t q. cancels t.0 q };
-
-    fn is_met(&self, q: Request) -> bool {
-        cancels(self.0, q)
+/// The request as a cancel of this number leaves it.
+pub fn cancelled(target: u16, q: Request) -> Request
+    ensures { result ≡ cancelled target q }
+{
+    if cancels(target, q) {
+        Request {
+            mark: Mark::Cancelled,
+            ..q
+        }
+    } else {
+        q
     }
 }
 
-impl Change<Request> for Cancel {
-    ghost turns = { λ t q. cancelled t.0 q };
-
-    fn change(&self, q: Request) -> Request {
-        if cancels(self.0, q) {
-            Request {
-                number: q.number,
-                mark: Mark::Cancelled,
-                body: q.body,
-            }
-        } else {
-            q
-        }
+/// The request as a forced idle leaves it: marked aborted, unless it is marked already.
+pub fn aborted(q: Request) -> Request
+    ensures { result ≡ aborted q }
+{
+    match q.mark {
+        Mark::Unmarked => Request {
+            mark: Mark::Aborted,
+            ..q
+        },
+        Mark::Cancelled | Mark::Aborted => q,
     }
 }

@@ -2,7 +2,7 @@ ghost use Rattle.library.specs.States.{notice_number};
 ghost use Rattle.std.specs.Prelude.{◌≡◌};
 
 /// What an operator is told.
-#[derive(Clone, Copy)]
+#[derive(Clone, Copy, PartialEq, Eq, Debug)]
 pub enum Notice {
     /// Put cartridges into the port: an enter begins.
     Input,
@@ -14,12 +14,12 @@ pub enum Notice {
     Idle,
 }
 
-impl Notice {
-    /// The number that stands for it in a message.
-    pub fn number(self) -> u8
-        ensures { result ≡ notice_number self }
-    {
-        match self {
+/// The number that stands for a notice in a message.
+impl From<Notice> for u8 {
+    ghost from_gives = { λ notice n. n ≡ notice_number notice };
+
+    fn from(notice: Notice) -> u8 {
+        match notice {
             Notice::Input => 1,
             Notice::Remove => 2,
             Notice::IdlePending => 3,
@@ -28,8 +28,9 @@ impl Notice {
     }
 }
 
-/// A message to the operator: the number of its kind, and of the request that it is about.
-#[derive(Clone, Copy)]
+/// A message to the operator: the number of its kind, and of the request that it is about. The kind is
+/// a number, since this record leaves the server as it is, and a host may lend slots that hold any.
+#[derive(Clone, Copy, PartialEq, Eq, Debug)]
 pub struct Message {
     pub kind: u8,
     pub number: u16,

@@ -1,14 +1,18 @@
 ghost use Rattle.library.specs.Verdicts.{done_with, moved_verdict, refused_by, shown_by, told_state, verdict_of};
+ghost use Rattle.library.specs.States.{state_number};
+ghost use Rattle.library.specs.Verdicts.Shown.{nothing};
 ghost use Rattle.std.specs.Prelude.{◌≡◌};
+ghost use Rattle.stock.specs.Refusals.{detail_of, status_of};
 
 use crate::entries::Entries;
+use crate::state::State;
 use requests::Request;
 use responses::Entry;
 use statuses::Status;
 use stock::refusal::Refusal;
 
 /// What a final has behind its status.
-#[derive(Clone, Copy)]
+#[derive(Drop)]
 pub enum Tail {
     Nothing,
     One(Entry),
@@ -17,7 +21,7 @@ pub enum Tail {
 }
 
 /// How a request ends, before its final is written.
-#[derive(Clone, Copy)]
+#[derive(Drop)]
 pub struct Verdict {
     pub status: Status,
     pub detail: Option<u8>,
@@ -25,51 +29,64 @@ pub struct Verdict {
 }
 
 /// A final: the request that it ends, and how.
-#[derive(Clone, Copy)]
+#[derive(Drop)]
 pub struct Final {
     pub request: Request,
     pub verdict: Verdict,
 }
 
-/// Success.
-pub fn done(tail: Tail) -> Verdict
-    ensures { verdict_of result ≡ done_with (shown_by tail) }
-{
-    Verdict {
-        status: Status::Success,
-        detail: None,
-        tail,
+impl Verdict {
+    /// Success.
+    pub fn done(tail: Tail) -> Verdict
+        ensures { verdict_of result ≡ done_with (shown_by tail) }
+    {
+        Verdict {
+            status: Status::Success,
+            detail: None,
+            tail,
+        }
+    }
+
+    /// Success, telling the server's state.
+    pub fn told(state: State) -> Verdict
+        ensures { verdict_of result ≡ told_state (state_number state) }
+    {
+        Verdict {
+            status: Status::Success,
+            detail: Some(u8::from(state)),
+            tail: Tail::Nothing,
+        }
+    }
+
+    /// A refusal.
+    pub fn refused(status: Status, detail: Option<u8>, tail: Tail) -> Verdict
+        ensures { verdict_of result ≡ refused_by status detail (shown_by tail) }
+    {
+        Verdict {
+            status,
+            detail,
+            tail,
+        }
     }
 }
 
-/// Success, telling the server's state.
-pub fn told(state: u8) -> Verdict
-    ensures { verdict_of result ≡ told_state state }
-{
-    Verdict {
-        status: Status::Success,
-        detail: Some(state),
-        tail: Tail::Nothing,
-    }
-}
+/// A refusal of the robot or of the stock.
+impl From<Refusal> for Verdict {
+    ghost from_gives = { λ why verdict. verdict_of verdict ≡ refused_by (status_of why) (detail_of why) nothing };
 
-/// A refusal.
-pub fn refused(status: Status, detail: Option<u8>, tail: Tail) -> Verdict
-    ensures { verdict_of result ≡ refused_by status detail (shown_by tail) }
-{
-    Verdict {
-        status,
-        detail,
-        tail,
+    fn from(why: Refusal) -> Verdict {
+        Verdict::refused(Status::from(why), why.detail(), Tail::Nothing)
     }
 }
 
 /// The end of a request that moved one cartridge, or did not.
-pub fn moved(res: Result<Entry, Refusal>) -> Verdict
-    ensures { verdict_of result ≡ moved_verdict res }
-{
-    match res {
-        Ok(entry) => done(Tail::One(entry)),
-        Err(why) => refused(why.status(), why.detail(), Tail::Nothing),
+impl From<Result<Entry, Refusal>> for Verdict {
+    ghost from_gives = { λ res verdict. verdict_of verdict ≡ moved_verdict res };
+
+    fn from(res: Result<Entry, Refusal>) -> Verdict {
+        match res {
+            Ok(entry) => Verdict::done(Tail::One(entry)),
+            Err(why) => Verdict::from(why),
+        }
     }
 }

@@ -1,7 +1,10 @@
 //! Scripts: calls as bytes, one behind the other.
 
+ghost use Rattle.std.specs.Prelude.{◌<◌, ◌≤◌, length, IfSome};
+ghost use Rattle.std.specs.Iterator.{at_most};
+
 /// A call of a script.
-#[derive(Clone, Copy)]
+#[derive(Clone, Copy, PartialEq, Eq, Debug)]
 pub enum Call<'a> {
     /// The packet is received.
     Receive(&'a [u8]),
@@ -23,8 +26,10 @@ const TAKE: u8 = 0x42;
 const SERVICE: u8 = 0x43;
 
 /// The packet that a code below 40 stands before: its low five bits are the length, and bit 5 says that it is asked.
-fn packet_call(code: u8, rest: &[u8]) -> Option<(Call<'_>, &[u8])> {
-    let length = (code % 32) as usize;
+fn packet_call(code: u8, rest: &[u8]) -> Option<(Call<'_>, &[u8])>
+    ensures { IfSome result (λ p. length p.1.now ≤ length rest.now) }
+{
+    let length = usize::from(code % 32);
     if code >= STEPS || rest.len() < length {
         return None;
     }
@@ -38,7 +43,9 @@ fn packet_call(code: u8, rest: &[u8]) -> Option<(Call<'_>, &[u8])> {
 }
 
 /// The first call of a script, and what stands behind it.
-pub fn next_call(script: &[u8]) -> Option<(Call<'_>, &[u8])> {
+fn next_call(script: &[u8]) -> Option<(Call<'_>, &[u8])>
+    ensures { IfSome result (λ p. length p.1.now < length script.now) }
+{
     match script {
         [STEPS, count, rest @ ..] => Some((Call::Steps(*count), rest)),
         [PUT, place, a, b, c, d, rest @ ..] => {
@@ -51,5 +58,29 @@ pub fn next_call(script: &[u8]) -> Option<(Call<'_>, &[u8])> {
         [SERVICE, place, on, rest @ ..] => Some((Call::Service(*place, *on == 1), rest)),
         [code, rest @ ..] => packet_call(*code, rest),
         [] => None,
+    }
+}
+
+/// The calls of a script, up to the first bytes that are none.
+#[derive(Drop)]
+pub struct Calls<'a> {
+    script: &'a [u8],
+}
+
+impl<'a> Calls<'a> {
+    pub fn new(script: &'a [u8]) -> Calls<'a> {
+        Calls { script }
+    }
+}
+
+impl<'a> Iterator for Calls<'a> {
+    type Item = Call<'a>;
+
+    ghost remaining = { λ calls. at_most (length calls.script.now) };
+
+    fn next(&mut self) -> Option<Call<'a>> {
+        let (call, rest) = next_call(self.script)?;
+        self.script = rest;
+        Some(call)
     }
 }

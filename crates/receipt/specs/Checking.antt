@@ -15,7 +15,7 @@ use Rattle.library.specs.declared.state.State.TheVariants as state
 use Rattle.library.specs.States.{state_number}
 use Rattle.library.specs.Drives.{drive_at, is_online}
 use Rattle.library.specs.Library.{Job, Library}
-use Rattle.library.specs.Marks.{cancels}
+use Rattle.library.specs.Marks.{cancels, work_meets}
 use Rattle.receipt.specs.declared.refusal.NotReceived.{NotReceived}
 use Rattle.receipt.specs.declared.refusal.NotReceived.TheVariants as unreceived
 
@@ -118,8 +118,7 @@ vary_refusal true false d = None
 
 -- Cancel: nothing to mark.
 abbrev pub work_cancels : Option Job → ℕ → Bool
-work_cancels None t = false
-work_cancels (Some j) t = cancels t j.request
+work_cancels w t = work_meets (λ q. cancels t q) w
 
 abbrev pub can_cancel : Library → ℕ → Bool
 can_cancel l t = work_cancels l.work t || any_of (λ q. cancels t q) l.waiting

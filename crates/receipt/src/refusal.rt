@@ -6,7 +6,7 @@ use statuses::Status;
 use stock::refusal::in_byte;
 
 /// Why a request is refused at its receipt.
-#[derive(Clone, Copy)]
+#[derive(Clone, Copy, PartialEq, Eq, Debug)]
 pub enum NotReceived {
     /// The state does not serve it.
     NotServed(State),
@@ -24,12 +24,12 @@ pub enum NotReceived {
     LibraryBusy,
 }
 
-impl NotReceived {
-    /// The status that tells it.
-    pub fn status(self) -> Status
-        ensures { result ≡ status_of self }
-    {
-        match self {
+/// The status that tells a refusal.
+impl From<NotReceived> for Status {
+    ghost from_gives = { λ why status. status ≡ status_of why };
+
+    fn from(why: NotReceived) -> Status {
+        match why {
             NotReceived::NotServed(_) => Status::NotServed,
             NotReceived::IdlePending => Status::IdlePending,
             NotReceived::NoDrive(_) => Status::NoDrive,
@@ -39,15 +39,16 @@ impl NotReceived {
             NotReceived::LibraryBusy => Status::LibraryBusy,
         }
     }
+}
 
+impl NotReceived {
     /// The state or the place that it is about, where it has one.
     pub fn detail(self) -> Option<u8>
         ensures { result ≡ detail_of self }
     {
         match self {
-            NotReceived::NotServed(state) => Some(state.number()),
-            NotReceived::NoDrive(p) => Some(in_byte(p)),
-            NotReceived::NotOnline(p) => Some(in_byte(p)),
+            NotReceived::NotServed(state) => Some(u8::from(state)),
+            NotReceived::NoDrive(p) | NotReceived::NotOnline(p) => Some(in_byte(p)),
             _ => None,
         }
     }

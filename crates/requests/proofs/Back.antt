@@ -1,5 +1,5 @@
 -- A packet of fields is taken apart into these fields again, and so what is written reads back.
-use Rattle.std.proofs.Common.{◌≡◌, ℕ, ◌<◌, ◌≤◌, Bool, true, false, cond, ltb, List, [], ◌++◌, length, take, drop, is_some, Some, None, Ok, Err, Option, Result, sym, refl, ap, ◌∙◌, append-nil, arith, ltb-false}
+use Rattle.std.proofs.Common.{◌≡◌, ℕ, ◌<◌, Bool, true, false, List, [], ◌++◌, length, take, drop, is_some, Some, Ok, Err, Option, Result, sym, refl, ap, ◌∙◌, append-nil}
 use Rattle.std.proofs.lemmas.List.{take_at}
 use Rattle.byte_fields.specs.Taking.{has_bit, one_off, two_off, six_off}
 use Rattle.byte_fields.specs.Putting.{one_bytes, two_bytes, six_bytes}
@@ -10,13 +10,12 @@ use Rattle.requests.specs.declared.taking.Ending.TheVariants.{Exact}
 use Rattle.requests.specs.declared.taking.Fields.{Fields}
 use Rattle.requests.specs.declared.taking.Taken.{Taken}
 use Rattle.requests.specs.declared.values.Values.{Values}
-use Rattle.requests.specs.declared.writing.Unwritable.{Unwritable}
-use Rattle.requests.specs.declared.writing.Unwritable.TheVariants.{SmallBuffer}
 use Rattle.requests.specs.Taking.{map_alone, with_number, with_command, with_option, with_label, with_place, with_target, with_state, next, ending_of, from_state, from_target, from_place, from_label, from_option, from_command, taken, Stands}
 use Rattle.requests.specs.Checking.{checked}
+use Rattle.requests.specs.Inspecting.{passed}
 use Rattle.requests.specs.Reading.{answered_by, answered, request_in}
 use Rattle.requests.specs.Values.{when, fields_of}
-use Rattle.requests.specs.Writing.{packet_of, bad_fields, unwritable, answer_by, answer, left_by, left}
+use Rattle.requests.specs.Writing.{packet_of}
 use Rattle.requests.specs.RoundTrips.{ReadsBack}
 use Rattle.requests.proofs.Sent.{when_there, fields_sent}
 
@@ -68,28 +67,10 @@ pub given_six : (b : Bool) (l : List ℕ) → length l ≡ 6 → Six (when b l)
 given_six true l h = h
 given_six false l h = tt
 
--- What fields that are written have passed.
-some_none : {X : Type 0} (x : X) → Some x ≡ None → ⊥
-some_none x h = let z : ◌≡◌ {A = ℕ} 0 1 = cc in omega arith
-
-room : (b : Bool) (e : Unwritable) (rest : Option Unwritable) → cond b (Some e) rest ≡ None → (b ≡ false) × (rest ≡ None)
-room true e rest h = absurd (some_none e h)
-room false e rest h = (refl, h)
-
-right : (r : Result Request Cause) → bad_fields r ≡ None → (q : Request) × (r ≡ Ok q)
-right (Ok q) h = (q, refl)
-right (Err e) h = absurd (some_none _ h)
-
-pub record Writable (n : ℕ) (f : Fields) : Type 0 where
-  pub room : 15 ≤ n
-  pub request : Request
-  pub makes : checked f ≡ Ok request
-
-pub writable : (n : ℕ) (f : Fields) → unwritable n f ≡ None → Writable n f
-writable n f h =
-    let a = room (ltb n 15) SmallBuffer (bad_fields (checked f)) h in
-    let b = right (checked f) a.1 in
-    record { room = ltb-false n 15 a.0; request = b.0; makes = b.1 }
+-- Fields that are passed make a request.
+passed_ok : (r : Result Request Cause) (u : Unit {0}) → Ok u ≡ passed r → (q : Request) × (r ≡ Ok q)
+passed_ok (Ok q) u h = (q, refl)
+passed_ok (Err e) u h = cc
 
 -- The packet of fields that make a request reads as that request, which is sent in these fields.
 pub reads_back : (f : Fields) (q : Request) (p : List ℕ) → Stands f → Six f.label → checked f ≡ Ok q → p ≡ packet_of f → ReadsBack p f
@@ -103,20 +84,9 @@ reads_back f q p s six h e = record {
 pub at_front : (p xs ys : List ℕ) (n : ℕ) → ys ≡ p ++ drop (length p) xs → n ≡ length p → take n ys ≡ p
 at_front p xs ys n e k = ap (λ (zs : List ℕ). take n zs) e ∙ take_at p (drop (length p) xs) n (sym k)
 
--- What the writer tells and leaves, once it has written the fields.
-pub record WrittenOut (f : Fields) (xs ys : List ℕ) (n : ℕ) : Type 0 where
-  pub told : Ok n ≡ answer (length xs) f
-  pub buffer : ys ≡ left f xs
-  pub reads : ReadsBack (take n ys) f
-
-pub written_out : (g f : Fields) (xs ys : List ℕ) (n : ℕ) → g ≡ f → None ≡ unwritable (length xs) g → ys ≡ packet_of g ++ drop (length (packet_of g)) xs → n ≡ length (packet_of g)
-    → Stands f → Six f.label → WrittenOut f xs ys n
-written_out g f xs ys n e h y k s six =
-    let u : unwritable (length xs) f ≡ None = ap (λ (x : Fields). unwritable (length xs) x) (sym e) ∙ sym h in
-    let w = writable (length xs) f u in
-    let b : packet_of g ≡ packet_of f = ap packet_of e in
-    record {
-      told = ap (λ (m : ℕ). Ok m) (k ∙ ap (λ (l : List ℕ). length l) b) ∙ ap (λ (o : Option Unwritable). answer_by o f) (sym u);
-      buffer = y ∙ ap (λ (l : List ℕ). l ++ drop (length l) xs) b ∙ ap (λ (o : Option Unwritable). left_by o f xs) (sym u);
-      reads = reads_back f w.request (take n ys) s six w.makes (at_front (packet_of g) xs ys n y k ∙ b);
-    }
+-- Fields that are passed and then written read back.
+pub written_back : (g f : Fields) (xs ys : List ℕ) (n : ℕ) (u : Unit {0}) → g ≡ f → Ok u ≡ passed (checked g) → ys ≡ packet_of g ++ drop (length (packet_of g)) xs → n ≡ length (packet_of g)
+    → Stands f → Six f.label → ReadsBack (take n ys) f
+written_back g f xs ys n u e h y k s six =
+    let q = passed_ok (checked f) u (h ∙ ap (λ (x : Fields). passed (checked x)) e) in
+    reads_back f q.0 (take n ys) s six q.1 (at_front (packet_of g) xs ys n y k ∙ ap packet_of e)

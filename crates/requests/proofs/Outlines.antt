@@ -1,5 +1,5 @@
 -- What is told of a packet without its request is what its request would tell.
-use Rattle.std.proofs.Common.{◌≡◌, ℕ, Bool, false, cond, ltb, List, is_some, Some, None, Ok, Err, Option, Result, unwrap_or, sym, refl, ap, ◌∙◌, subst}
+use Rattle.std.proofs.Common.{◌≡◌, ℕ, false, List, is_some, Some, None, Ok, Err, Option, Result, unwrap_or, sym, refl, ap, ◌∙◌, subst}
 use Rattle.byte_fields.specs.Taking.{Bytes}
 use Rattle.labels.specs.declared.Label.{Label}
 use Rattle.requests.specs.declared.commands.Command.{Command}
@@ -12,14 +12,12 @@ use Rattle.requests.specs.declared.taking.Ending.{Ending}
 use Rattle.requests.specs.declared.taking.Ending.TheVariants.{Short, Exact, Long}
 use Rattle.requests.specs.declared.taking.Fields.{Fields}
 use Rattle.requests.specs.declared.taking.Taken.{Taken}
-use Rattle.requests.specs.declared.writing.Unwritable.TheVariants.{SmallBuffer, BadFields}
 use Rattle.requests.specs.Bodies.{command_in}
 use Rattle.requests.specs.Commands.{command_number}
 use Rattle.requests.specs.Checking.{wrong_at, body_of, checked}
 use Rattle.requests.specs.Inspecting.{passed, outlined}
 use Rattle.requests.specs.Reading.{judged_by, judged, answered_by, answered, request_in}
 use Rattle.requests.specs.Taking.{taken, Stands}
-use Rattle.requests.specs.Writing.{bad_fields, unwritable}
 use Rattle.requests.proofs.Forth.{taken_makes}
 use Rattle.requests.proofs.Passed as pass
 
@@ -76,14 +74,6 @@ by_ending Exact f = go (checked f) refl
 
 pub told_alike : (p : List ℕ) (t : Taken) (u : Result (Unit {0}) Cause) → t ≡ taken p → u ≡ passed (judged t) → outline t.fields u ≡ outlined (request_in p)
 told_alike p t u a b = ap (outline t.fields) b ∙ sym (by_ending t.ending t.fields) ∙ ap (λ (x : Taken). outlined (answered x)) a
-
--- The cause that fields are refused by is that for which they are not written.
-refused_by_holds : (x : Result Request Cause) (e : Cause) → passed x ≡ Err e → bad_fields x ≡ Some (BadFields e)
-refused_by_holds (Ok r) e h = absurd (pass.err_ok e tt (sym h))
-refused_by_holds (Err d) e h = let p : d ≡ e = cc in ap (λ (k : Cause). Some (BadFields k)) p
-
-pub not_written : (n : ℕ) (f : Fields) (e : Cause) → ltb n 15 ≡ false → passed (checked f) ≡ Err e → Some (BadFields e) ≡ unwritable n f
-not_written n f e l h = sym (ap (λ (b : Bool). cond b (Some SmallBuffer) (bad_fields (checked f))) l ∙ refused_by_holds (checked f) e h)
 
 -- A packet of the right length has each field exactly where its bit stands.
 pub stands_exact : (p : List ℕ) (t : Taken) → Bytes p → t ≡ taken p → t.ending ≡ Exact → Stands t.fields

@@ -58,17 +58,6 @@ pub setting_passed : (field : Option ℕ) (s : Option DriveSetting) → setting_
 setting_passed None s h = let p : s ≡ None = cc in rw p
 setting_passed (Some n) s h = setting_by_holds n (setting_of n) s refl h
 
-mapped_there : {X Y : Type 0} (g : X → Y) (o : Option X) → is_some o ≡ is_some (option_map g o)
-mapped_there g None = refl
-mapped_there g (Some x) = refl
-
--- There is a label, or a setting, exactly where its field is.
-pub label_there : (field : Option (List ℕ)) (l : Option Label) → label_field field ≡ Ok l → is_some l ≡ is_some field
-label_there field l h = mapped_there (λ (x : Label). x.chars) l ∙ ap (λ (o : Option (List ℕ)). is_some o) (sym (label_passed field l h))
-
-pub setting_there : (field : Option ℕ) (s : Option DriveSetting) → setting_field field ≡ Ok s → is_some s ≡ is_some field
-setting_there field s h = mapped_there setting_number s ∙ ap (λ (o : Option ℕ). is_some o) (sym (setting_passed field s h))
-
 -- The field of a command is its number.
 tried : (n : ℕ) (a : Command) (other : Option Command) (c : Command) → (other ≡ Some c → n ≡ command_number c) → or_else n a other ≡ Some c → n ≡ command_number c
 tried n a other c k e = go (eqb n (command_number a)) refl e

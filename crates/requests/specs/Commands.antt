@@ -1,7 +1,8 @@
 -- The commands: one row for each.
-use Rattle.std.specs.Prelude.{ℕ, ◌+◌, ◌^◌, cond, List, [], ◌∷◌, Some, None, Option, ◌==◌}
+use Rattle.std.specs.Prelude.{ℕ, ◌+◌, ◌^◌, cond, List, [], ◌∷◌, Some, None, Option, Result, ◌==◌, ok_or}
 use Rattle.requests.specs.declared.commands.Command.{Command}
 use Rattle.requests.specs.declared.commands.Command.TheVariants as command
+use Rattle.requests.specs.declared.commands.UnknownCommand.{UnknownCommand}
 
 -- The map in which just these bits stand; bit 0 is worth 1.
 abbrev pub map_of : List ℕ → ℕ
@@ -50,3 +51,7 @@ command_of n =
     (or_else n command.Query
     (or_else n command.Start
     (or_else n command.Vary None)))))))))
+
+-- The same, with the number where it stands for none.
+abbrev pub command_named : ℕ → Result Command UnknownCommand
+command_named n = ok_or (command_of n) (record { code = n })

@@ -11,6 +11,16 @@ use Rattle.requests.specs.declared.taking.Taken.{Taken}
 use Rattle.requests.specs.Taking.{taken}
 use Rattle.requests.specs.Checking.{checked}
 
+-- The fields of a packet of the right length.
+abbrev pub whole_by : Ending → Fields → Result Fields Cause
+whole_by Short f = Err cause.Short
+whole_by Long f = Err cause.Long
+whole_by Exact f = Ok f
+
+-- The same of a packet taken apart.
+abbrev pub whole : Taken → Result Fields Cause
+whole t = whole_by t.ending t.fields
+
 -- The packet's length comes before all else.
 abbrev pub judged_by : Ending → Fields → Result Request Cause
 judged_by Short f = Err cause.Short

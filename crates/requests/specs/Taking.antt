@@ -1,5 +1,6 @@
 -- The fields of a packet.
 use Rattle.std.specs.Prelude.{◌≡◌, ℕ, ◌<◌, List, [], ◌∷◌, is_some, Some, None, Option}
+use Rattle.std.specs.Borrow.{Bor}
 use Rattle.byte_fields.specs.Taking.{has_bit, one_off, two_off, six_off}
 use Rattle.requests.specs.declared.taking.Fields.{Fields}
 use Rattle.requests.specs.declared.taking.Taken.{Taken}
@@ -44,6 +45,11 @@ short_of f = record { fields = f; ending = Short }
 abbrev pub ending_of : List ℕ → Ending
 ending_of [] = Exact
 ending_of (b ∷ bs) = Long
+
+-- The fields taken, with the bytes left behind them, or with none where the packet ended before one.
+abbrev pub ended : Fields → Option (Bor (List ℕ)) → Taken
+ended f None = short_of f
+ended f (Some r) = record { fields = f; ending = ending_of r.now }
 
 -- What comes of a packet with the field that was cut off and the bytes behind it, or without it.
 abbrev pub next : {X : Type 0} → Option (X × List ℕ) → Fields → (X → List ℕ → Taken) → Taken

@@ -1,13 +1,13 @@
 //! A request as read: its number, its mark and one of nine bodies.
 
-ghost use Rattle.requests.specs.Bodies.{command_in, setting_number, setting_of};
+ghost use Rattle.requests.specs.Bodies.{command_in, setting_named, setting_number};
 ghost use Rattle.std.specs.Prelude.{◌≡◌};
 
 use crate::commands::Command;
 use labels::Label;
 
 /// Whether a request was cancelled or aborted before its turn. A packet carries no mark.
-#[derive(Clone, Copy)]
+#[derive(Clone, Copy, PartialEq, Eq, Debug)]
 pub enum Mark {
     Unmarked,
     Cancelled,
@@ -15,37 +15,47 @@ pub enum Mark {
 }
 
 /// What a drive is varied to.
-#[derive(Clone, Copy)]
+#[derive(Clone, Copy, PartialEq, Eq, Debug)]
 pub enum DriveSetting {
     Online,
     Offline,
 }
 
-impl DriveSetting {
-    /// The number that stands for the setting in a packet.
-    pub fn code(self) -> u8
-        ensures { result ≡ setting_number self }
-    {
-        match self {
+/// The number that stands for the setting in a packet.
+impl From<DriveSetting> for u8 {
+    ghost from_gives = { λ setting code. code ≡ setting_number setting };
+
+    fn from(setting: DriveSetting) -> u8 {
+        match setting {
             DriveSetting::Online => 1,
             DriveSetting::Offline => 2,
         }
     }
+}
 
-    /// The setting that the number stands for, if one does.
-    pub fn of_code(code: u8) -> Option<DriveSetting>
-        ensures { result ≡ setting_of code }
-    {
+/// A number that stands for no drive setting.
+#[derive(Clone, Copy, PartialEq, Eq, Debug)]
+pub struct UnknownSetting {
+    pub code: u8,
+}
+
+/// The setting that the number stands for.
+impl TryFrom<u8> for DriveSetting {
+    type Error = UnknownSetting;
+
+    ghost try_from_gives = { λ code res. res ≡ setting_named code };
+
+    fn try_from(code: u8) -> Result<DriveSetting, UnknownSetting> {
         match code {
-            1 => Some(DriveSetting::Online),
-            2 => Some(DriveSetting::Offline),
-            _ => None,
+            1 => Ok(DriveSetting::Online),
+            2 => Ok(DriveSetting::Offline),
+            _ => Err(UnknownSetting { code }),
         }
     }
 }
 
 /// What a request asks for, with all that it names.
-#[derive(Clone, Copy)]
+#[derive(Clone, Copy, PartialEq, Eq, Debug)]
 pub enum Body {
     Cancel {
         target: u16,
@@ -103,7 +113,7 @@ impl Body {
 }
 
 /// A request.
-#[derive(Clone, Copy)]
+#[derive(Clone, Copy, PartialEq, Eq, Debug)]
 pub struct Request {
     pub number: u16,
     pub mark: Mark,

@@ -1,6 +1,6 @@
 //! The fields checked by the table of commands, and the request that they make.
 
-ghost use Rattle.requests.specs.Checking.{bits_right, body_of, checked, command_field, label_field, lowest_wrong, setting_field, wrong_at, wrong_option};
+ghost use Rattle.requests.specs.Checking.{bits_by, body_of, checked, command_field, label_field, lowest_wrong, setting_field, wrong_at, wrong_option, wrongs};
 ghost use Rattle.std.specs.Prelude.{◌≡◌, is_some, None};
 
 use crate::bodies::{Body, DriveSetting, Mark, Request};
@@ -14,13 +14,8 @@ use labels::Label;
 pub(crate) fn command_in(field: Option<u8>) -> Result<Command, Cause>
     ensures { result ≡ command_field field }
 {
-    let Some(code) = field else {
-        return Err(Cause::UnknownCommand);
-    };
-    match Command::of_code(code) {
-        Some(command) => Ok(command),
-        None => Err(Cause::UnknownCommand),
-    }
+    let code = field.ok_or(Cause::UnknownCommand)?;
+    Ok(Command::try_from(code)?)
 }
 
 /// Whether the field worth `worth` is missing, or not taken.
@@ -38,77 +33,52 @@ fn wrong_at(command: Command, worth: u8, stands: bool) -> bool
 pub(crate) fn wrong_option(option: Option<u8>) -> bool
     ensures { result ≡ wrong_option option }
 {
-    match option {
-        Some(v) => v != 1,
-        None => false,
-    }
+    option.is_some_and(|v| v != 1)
 }
 
-/// The lowest bit that is missing, not taken, or an option's other than 1.
+/// Of each bit, from 0 on, whether it is missing, not taken, or an option's other than 1.
+fn wrongs(command: Command, f: Fields) -> [bool; 8]
+    ensures { result ≡ wrongs command f }
+{
+    [
+        wrong_at(command, 1, f.number.is_some()),
+        wrong_at(command, 2, f.command.is_some()),
+        wrong_at(command, 4, f.option.is_some()) || wrong_option(f.option),
+        wrong_at(command, 8, f.label.is_some()),
+        wrong_at(command, 16, f.place.is_some()),
+        wrong_at(command, 32, f.target.is_some()),
+        wrong_at(command, 64, f.drive_state.is_some()),
+        has(f.map, 128),
+    ]
+}
+
+/// The lowest bit that is wrong.
 fn lowest_wrong(command: Command, f: Fields) -> Option<u8>
     ensures { result ≡ lowest_wrong command f }
 {
-    if wrong_at(command, 1, f.number.is_some()) {
-        return Some(0);
-    }
-    if wrong_at(command, 2, f.command.is_some()) {
-        return Some(1);
-    }
-    if wrong_at(command, 4, f.option.is_some()) || wrong_option(f.option) {
-        return Some(2);
-    }
-    if wrong_at(command, 8, f.label.is_some()) {
-        return Some(3);
-    }
-    if wrong_at(command, 16, f.place.is_some()) {
-        return Some(4);
-    }
-    if wrong_at(command, 32, f.target.is_some()) {
-        return Some(5);
-    }
-    if wrong_at(command, 64, f.drive_state.is_some()) {
-        return Some(6);
-    }
-    if has(f.map, 128) {
-        return Some(7);
-    }
-    None
+    let bit = wrongs(command, f).iter().position(|wrong| *wrong)?;
+    Some(bit as u8)
 }
 
-/// Whether the command takes just these fields.
-fn check_bits(command: Command, f: Fields) -> Result<(), Cause>
-    ensures { result ≡ bits_right command f }
+/// Whether no bit is wrong; else the lowest is told.
+pub(crate) fn none_wrong(lowest: Option<u8>) -> Result<(), Cause>
+    ensures { result ≡ bits_by lowest }
 {
-    match lowest_wrong(command, f) {
-        Some(bit) => Err(Cause::WrongBit { bit }),
-        None => Ok(()),
-    }
+    lowest.map_or(Ok(()), |bit| Err(Cause::WrongBit { bit }))
 }
 
 /// The label of the field, where it is there.
 pub(crate) fn label_in(field: Option<[u8; 6]>) -> Result<Option<Label>, Cause>
     ensures { result ≡ label_field field }
 {
-    let Some(chars) = field else {
-        return Ok(None);
-    };
-    match Label::new(chars) {
-        Ok(label) => Ok(Some(label)),
-        Err(wrong) => Err(Cause::WrongCharacter { index: wrong.index }),
-    }
+    Ok(field.map(Label::new).transpose()?)
 }
 
 /// The drive setting of the field, where it is there.
 pub(crate) fn setting_in(field: Option<u8>) -> Result<Option<DriveSetting>, Cause>
     ensures { result ≡ setting_field field }
 {
-    let Some(code) = field else {
-        return Ok(None);
-    };
-    match DriveSetting::of_code(code) {
-        Some(setting) => Ok(Some(setting)),
-        None => Err(Cause::WrongDriveState),
-    }
+    Ok(field.map(DriveSetting::try_from).transpose()?)
 }
 
 /// The body of a command whose fields are as it takes them.
@@ -157,7 +127,7 @@ pub fn check_fields(f: Fields) -> Result<Request, Cause>
     ensures { result ≡ checked f }
 {
     let command = command_in(f.command)?;
-    check_bits(command, f)?;
+    none_wrong(lowest_wrong(command, f))?;
     let label = label_in(f.label)?;
     let setting = setting_in(f.drive_state)?;
     Ok(Request {

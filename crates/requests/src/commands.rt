@@ -1,10 +1,10 @@
 //! The nine commands, with the bits that each needs and permits.
 
-ghost use Rattle.requests.specs.Commands.{command_of, row};
+ghost use Rattle.requests.specs.Commands.{command_named, command_number, row};
 ghost use Rattle.std.specs.Prelude.{◌≡◌};
 
 /// What a request asks for.
-#[derive(Clone, Copy)]
+#[derive(Clone, Copy, PartialEq, Eq, Debug)]
 pub enum Command {
     Cancel,
     Dismount,
@@ -18,48 +18,13 @@ pub enum Command {
 }
 
 /// The map of the bits that a command needs, and of those that it may have besides.
-#[derive(Clone, Copy)]
+#[derive(Clone, Copy, PartialEq, Eq, Debug)]
 pub struct Bits {
     pub needed: u8,
     pub permitted: u8,
 }
 
 impl Command {
-    /// The number that stands for the command in a packet.
-    pub fn code(self) -> u8
-        ensures { result ≡ (row self).number }
-    {
-        match self {
-            Command::Cancel => 2,
-            Command::Dismount => 3,
-            Command::Eject => 4,
-            Command::Enter => 5,
-            Command::Idle => 6,
-            Command::Mount => 7,
-            Command::Query => 8,
-            Command::Start => 9,
-            Command::Vary => 10,
-        }
-    }
-
-    /// The command that the number stands for, if one does.
-    pub fn of_code(code: u8) -> Option<Command>
-        ensures { result ≡ command_of code }
-    {
-        match code {
-            2 => Some(Command::Cancel),
-            3 => Some(Command::Dismount),
-            4 => Some(Command::Eject),
-            5 => Some(Command::Enter),
-            6 => Some(Command::Idle),
-            7 => Some(Command::Mount),
-            8 => Some(Command::Query),
-            9 => Some(Command::Start),
-            10 => Some(Command::Vary),
-            _ => None,
-        }
-    }
-
     /// What the command takes: one table, so that one look tells both maps.
     pub fn bits(self) -> Bits
         ensures needed { result.needed ≡ (row self).needed }
@@ -91,5 +56,52 @@ impl Command {
         ensures { result ≡ (row self).permitted }
     {
         self.bits().permitted
+    }
+}
+
+/// The number that stands for the command in a packet.
+impl From<Command> for u8 {
+    ghost from_gives = { λ command code. code ≡ command_number command };
+
+    fn from(command: Command) -> u8 {
+        match command {
+            Command::Cancel => 2,
+            Command::Dismount => 3,
+            Command::Eject => 4,
+            Command::Enter => 5,
+            Command::Idle => 6,
+            Command::Mount => 7,
+            Command::Query => 8,
+            Command::Start => 9,
+            Command::Vary => 10,
+        }
+    }
+}
+
+/// A number that stands for no command.
+#[derive(Clone, Copy, PartialEq, Eq, Debug)]
+pub struct UnknownCommand {
+    pub code: u8,
+}
+
+/// The command that the number stands for.
+impl TryFrom<u8> for Command {
+    type Error = UnknownCommand;
+
+    ghost try_from_gives = { λ code res. res ≡ command_named code };
+
+    fn try_from(code: u8) -> Result<Command, UnknownCommand> {
+        match code {
+            2 => Ok(Command::Cancel),
+            3 => Ok(Command::Dismount),
+            4 => Ok(Command::Eject),
+            5 => Ok(Command::Enter),
+            6 => Ok(Command::Idle),
+            7 => Ok(Command::Mount),
+            8 => Ok(Command::Query),
+            9 => Ok(Command::Start),
+            10 => Ok(Command::Vary),
+            _ => Err(UnknownCommand { code }),
+        }
     }
 }

@@ -8,13 +8,14 @@ ghost use Rattle.requests.specs.Taking.{Stands};
 ghost use Rattle.requests.specs.declared.taking.Ending.TheVariants.{Exact};
 ghost use Rattle.std.specs.Prelude.{◌≡◌};
 
-use crate::checking::{command_in, label_in, setting_in, wrong_option};
+use crate::checking::{command_in, label_in, none_wrong, setting_in, wrong_option};
 use crate::commands::Command;
 use crate::refusals::Cause;
-use crate::taking::{Ending, Fields, Taken, take_fields};
+use crate::standing::Standing;
+use crate::taking::{Taken, take_fields};
 
 /// The cause of a refusal, if there is one, and number and command where they could be read.
-#[derive(Clone, Copy)]
+#[derive(Clone, Copy, PartialEq, Eq, Debug)]
 pub struct Outline {
     pub fault: Result<(), Cause>,
     pub number: Option<u16>,
@@ -42,38 +43,33 @@ fn lowest_in(command: Command, map: u8, bad: bool) -> Option<u8>
 }
 
 /// Whether the command takes just these fields.
-fn pass_bits(command: Command, f: Fields) -> Result<(), Cause>
-    requires { Stands f }
-    ensures { result ≡ bits_right command f }
+fn pass_bits(command: Command, f: Standing) -> Result<(), Cause>
+    ensures { result ≡ bits_right command f.fields }
 {
-    match lowest_in(command, f.map, wrong_option(f.option)) {
-        Some(bit) => Err(Cause::WrongBit { bit }),
-        None => Ok(()),
-    }
+    let bad = wrong_option(f.fields.option);
+    none_wrong(lowest_in(command, f.fields.map, bad))
 }
 
 /// Whether the fields make a request, or the cause for which they make none. `WRITING` is there to
 /// give each caller an instance of its own, which the compiler then puts in place of the call.
-pub(crate) fn pass_fields<const WRITING: bool>(f: Fields) -> Result<(), Cause>
-    requires { Stands f }
-    ensures { result ≡ passed (checked f) }
+pub(crate) fn pass_fields<const WRITING: bool>(f: Standing) -> Result<(), Cause>
+    ensures { result ≡ passed (checked f.fields) }
 {
-    let command = command_in(f.command)?;
+    let command = command_in(f.fields.command)?;
     pass_bits(command, f)?;
-    label_in(f.label)?;
-    setting_in(f.drive_state)?;
+    label_in(f.fields.label)?;
+    setting_in(f.fields.drive_state)?;
     Ok(())
 }
 
+/// The same of a packet taken apart. The fact stays a clause here: `Taken` is public, and a ghost
+/// field would ask more of those who make one.
 fn pass(taken: Taken) -> Result<(), Cause>
     requires { taken.ending ≡ Exact → Stands taken.fields }
     ensures { result ≡ passed (judged taken) }
 {
-    match taken.ending {
-        Ending::Short => Err(Cause::Short),
-        Ending::Long => Err(Cause::Long),
-        Ending::Exact => pass_fields::<false>(taken.fields),
-    }
+    let fields = taken.whole()?;
+    pass_fields::<false>(Standing { fields })
 }
 
 /// Whether a packet reads as a request, and what `read` tells of it besides.

@@ -10,13 +10,14 @@ mod examples;
 mod inspecting;
 mod reading;
 mod refusals;
+mod standing;
 mod taking;
 mod values;
 mod writing;
 
-pub use bodies::{Body, DriveSetting, Mark, Request};
+pub use bodies::{Body, DriveSetting, Mark, Request, UnknownSetting};
 pub use checking::check_fields;
-pub use commands::{Bits, Command};
+pub use commands::{Bits, Command, UnknownCommand};
 pub use examples::worked_packets;
 pub use inspecting::{Outline, inspect};
 pub use reading::read;

@@ -8,31 +8,24 @@ ghost use Rattle.std.specs.Prelude.{◌≡◌, IfOk};
 use crate::bodies::Request;
 use crate::checking::check_fields;
 use crate::refusals::{BadPacket, Cause};
-use crate::taking::{Ending, Taken, take_fields};
+use crate::taking::{Taken, take_fields};
 
 /// The request of a packet taken apart, or the cause of its refusal.
 fn judge(taken: Taken) -> Result<Request, Cause>
     ensures { result ≡ judged taken }
 {
-    match taken.ending {
-        Ending::Short => Err(Cause::Short),
-        Ending::Long => Err(Cause::Long),
-        Ending::Exact => check_fields(taken.fields),
-    }
+    check_fields(taken.whole()?)
 }
 
 /// The answer to a packet taken apart. A refusal tells what could be read.
 fn answer(taken: Taken) -> Result<Request, BadPacket>
     ensures { result ≡ answered taken }
 {
-    match judge(taken) {
-        Ok(request) => Ok(request),
-        Err(cause) => Err(BadPacket {
-            cause,
-            number: taken.fields.number,
-            command: taken.fields.command,
-        }),
-    }
+    judge(taken).map_err(|cause| BadPacket {
+        cause,
+        number: taken.fields.number,
+        command: taken.fields.command,
+    })
 }
 
 /// Reads a packet as a request, or says why it is none.

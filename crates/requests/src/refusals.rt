@@ -1,12 +1,16 @@
 //! Why a packet is refused.
 
 ghost use Rattle.requests.specs.Refusals.{cause_detail, cause_status};
+ghost use Rattle.requests.specs.declared.refusals.Cause.TheVariants as cause;
 ghost use Rattle.std.specs.Prelude.{◌≡◌};
 
+use crate::bodies::UnknownSetting;
+use crate::commands::UnknownCommand;
+use labels::WrongCharacter;
 use statuses::Status;
 
 /// The cause of a refusal: each has a status, and some a detail.
-#[derive(Clone, Copy)]
+#[derive(Clone, Copy, PartialEq, Eq, Debug)]
 pub enum Cause {
     Short,
     Long,
@@ -17,20 +21,6 @@ pub enum Cause {
 }
 
 impl Cause {
-    /// The status that a packet is refused by.
-    pub fn status(self) -> Status
-        ensures { result ≡ cause_status self }
-    {
-        match self {
-            Cause::Short => Status::Short,
-            Cause::Long => Status::Long,
-            Cause::UnknownCommand => Status::UnknownCommand,
-            Cause::WrongBit { bit: _ } => Status::WrongBit,
-            Cause::WrongCharacter { index: _ } => Status::WrongCharacter,
-            Cause::WrongDriveState => Status::WrongDriveState,
-        }
-    }
-
     /// The lowest wrong bit, or the index of the first wrong character.
     pub fn detail(self) -> Option<u8>
         ensures { result ≡ cause_detail self }
@@ -43,8 +33,48 @@ impl Cause {
     }
 }
 
+/// The status that a packet is refused by.
+impl From<Cause> for Status {
+    ghost from_gives = { λ refused status. status ≡ cause_status refused };
+
+    fn from(cause: Cause) -> Status {
+        match cause {
+            Cause::Short => Status::Short,
+            Cause::Long => Status::Long,
+            Cause::UnknownCommand => Status::UnknownCommand,
+            Cause::WrongBit { bit: _ } => Status::WrongBit,
+            Cause::WrongCharacter { index: _ } => Status::WrongCharacter,
+            Cause::WrongDriveState => Status::WrongDriveState,
+        }
+    }
+}
+
+impl From<UnknownCommand> for Cause {
+    ghost from_gives = { λ _ refused. refused ≡ cause.UnknownCommand };
+
+    fn from(_: UnknownCommand) -> Cause {
+        Cause::UnknownCommand
+    }
+}
+
+impl From<WrongCharacter> for Cause {
+    ghost from_gives = { λ wrong refused. refused ≡ cause.WrongCharacter wrong.index };
+
+    fn from(wrong: WrongCharacter) -> Cause {
+        Cause::WrongCharacter { index: wrong.index }
+    }
+}
+
+impl From<UnknownSetting> for Cause {
+    ghost from_gives = { λ _ refused. refused ≡ cause.WrongDriveState };
+
+    fn from(_: UnknownSetting) -> Cause {
+        Cause::WrongDriveState
+    }
+}
+
 /// A refused packet: the cause, and its number and command where they could be read.
-#[derive(Clone, Copy)]
+#[derive(Clone, Copy, PartialEq, Eq, Debug)]
 pub struct BadPacket {
     pub cause: Cause,
     pub number: Option<u16>,

@@ -2,50 +2,45 @@
 
 ghost use Rattle.std.specs.Prelude.{◌≡◌, ◌≤◌, ◌++◌, length, take, drop, IfOk};
 ghost use Rattle.requests.specs.RoundTrips.{ReadsBack};
-ghost use Rattle.requests.specs.Taking.{Stands};
 ghost use Rattle.requests.specs.Values.{fields_of};
-ghost use Rattle.requests.specs.Writing.{answer, left, packet_of, unwritable, unwritable_status};
+ghost use Rattle.requests.specs.Writing.{answer, left, packet_of, unwritable_status};
+ghost use Rattle.requests.specs.declared.writing.Unwritable.TheVariants.{BadFields};
 
 use crate::inspecting::pass_fields;
 use crate::refusals::Cause;
+use crate::standing::Standing;
 use crate::taking::Fields;
 use crate::values::{Values, fields_of};
-use byte_fields::{put, put_one, put_six, put_two};
+use byte_fields::Writer;
 use statuses::Status;
 
 /// The length of the longest packet, a map and every field.
 const ROOM: usize = 15;
 
 /// Why a packet is not written.
-#[derive(Clone, Copy)]
+#[derive(Clone, Copy, PartialEq, Eq, Debug)]
 pub enum Unwritable {
     SmallBuffer,
     BadFields { cause: Cause },
 }
 
-impl Unwritable {
-    /// The status that the writer tells: 2 for a small buffer, else that of the cause.
-    pub fn status(self) -> Status
-        ensures { result ≡ unwritable_status self }
-    {
-        match self {
+/// The status that the writer tells: 2 for a small buffer, else that of the cause.
+impl From<Unwritable> for Status {
+    ghost from_gives = { λ refused status. status ≡ unwritable_status refused };
+
+    fn from(refused: Unwritable) -> Status {
+        match refused {
             Unwritable::SmallBuffer => Status::Long,
-            Unwritable::BadFields { cause } => cause.status(),
+            Unwritable::BadFields { cause } => Status::from(cause),
         }
     }
 }
 
-/// Why the fields are not written into a buffer of `room` bytes.
-fn why_not(room: usize, fields: Fields) -> Option<Unwritable>
-    requires { Stands fields }
-    ensures { result ≡ unwritable room fields }
-{
-    if room < ROOM {
-        return Some(Unwritable::SmallBuffer);
-    }
-    match pass_fields::<true>(fields) {
-        Ok(()) => None,
-        Err(cause) => Some(Unwritable::BadFields { cause }),
+impl From<Cause> for Unwritable {
+    ghost from_gives = { λ cause refused. refused ≡ BadFields cause };
+
+    fn from(cause: Cause) -> Unwritable {
+        Unwritable::BadFields { cause }
     }
 }
 
@@ -55,14 +50,16 @@ fn put_fields(buffer: &mut [u8], f: Fields) -> usize
     ensures after { buffer.new ≡ packet_of f ++ drop (length (packet_of f)) buffer.old }
     ensures end { result ≡ length (packet_of f) }
 {
-    let at = put(buffer, 0, &[f.map]);
-    let at = put_two(buffer, at, f.number);
-    let at = put_one(buffer, at, f.command);
-    let at = put_one(buffer, at, f.option);
-    let at = put_six(buffer, at, f.label);
-    let at = put_one(buffer, at, f.place);
-    let at = put_two(buffer, at, f.target);
-    put_one(buffer, at, f.drive_state)
+    let mut writer = Writer::new(buffer);
+    writer.put(&[f.map]);
+    writer.put_field(f.number);
+    writer.put_field(f.command);
+    writer.put_field(f.option);
+    writer.put_field(f.label);
+    writer.put_field(f.place);
+    writer.put_field(f.target);
+    writer.put_field(f.drive_state);
+    writer.len()
 }
 
 /// Writes the packet of a map and values to the front of the buffer and says how long it is, or
@@ -73,8 +70,9 @@ pub fn write(buffer: &mut [u8], map: u8, values: Values) -> Result<usize, Unwrit
     ensures reads { IfOk result (λ n. ReadsBack (take n buffer.new) (fields_of map values)) }
 {
     let fields = fields_of(map, values);
-    match why_not(buffer.len(), fields) {
-        Some(cause) => Err(cause),
-        None => Ok(put_fields(buffer, fields)),
+    if buffer.len() < ROOM {
+        return Err(Unwritable::SmallBuffer);
     }
+    pass_fields::<true>(Standing { fields })?;
+    Ok(put_fields(buffer, fields))
 }

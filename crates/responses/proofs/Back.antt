@@ -13,7 +13,7 @@ use Rattle.statuses.proofs.Numbers.{status_of_number}
 use Rattle.responses.specs.declared.Entry.{Entry}
 use Rattle.responses.specs.declared.ResponseKind.{ResponseKind}
 use Rattle.responses.specs.declared.ResponseKind.TheVariants.{Acknowledge, Final}
-use Rattle.responses.specs.declared.reading.Head.{Head}
+use Rattle.responses.specs.declared.Head.{Head}
 use Rattle.responses.specs.Responses.{Told, kind_number, count_of}
 use Rattle.responses.specs.Entries.{behind_label, entry_bytes, each_bytes, entries_bytes}
 use Rattle.responses.specs.Inventories.{map_bytes, label_bytes, labels_bytes, inventory_bytes}

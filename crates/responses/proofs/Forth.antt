@@ -6,7 +6,7 @@ use Rattle.byte_fields.proofs.Forth.{none_some}
 use Rattle.statuses.specs.Statuses.{status_number}
 use Rattle.responses.specs.declared.Entry.{Entry}
 use Rattle.responses.specs.declared.Response.{Response}
-use Rattle.responses.specs.declared.reading.Head.{Head}
+use Rattle.responses.specs.declared.Head.{Head}
 use Rattle.responses.specs.declared.writing.Unwritable.{Unwritable}
 use Rattle.responses.specs.Responses.{Told, kind_number, count_of, told}
 use Rattle.responses.specs.Entries.{entries_bytes}

@@ -8,7 +8,7 @@ use Rattle.statuses.specs.Statuses.{status_number}
 use Rattle.statuses.proofs.Numbers.{number_of_status}
 use Rattle.responses.specs.declared.ResponseKind.{ResponseKind}
 use Rattle.responses.specs.declared.ResponseKind.TheVariants.{Acknowledge, Final}
-use Rattle.responses.specs.declared.reading.Head.{Head}
+use Rattle.responses.specs.declared.Head.{Head}
 use Rattle.responses.specs.Responses.{kind_number}
 use Rattle.responses.specs.Writing.{layer_byte}
 use Rattle.responses.specs.Reading.{given, kind_in, status_in, same, detail_off, layer_off, status_off, kind_off, command_off, head_off}

@@ -1,23 +1,9 @@
 -- The reader's loops, turn by turn, and what a slice pattern's names are.
-use Rattle.std.proofs.Common.{◌≡◌, ℕ, zero, suc, ◌+◌, ◌-◌, ◌*◌, ◌/◌, ◌%◌, ◌^◌, ◌<◌, ◌≤◌, Bool, true, false, cond, eqb, leb, List, [], ◌∷◌, ◌++◌, length, get_or, take, drop, set, Some, None, Option, sym, refl, ap, ◌∙◌, append_assoc, append-nil, add-one, arith, get_or-drop, take_all, drop-cons, le-leb}
+use Rattle.std.proofs.Common.{◌≡◌, ℕ, zero, suc, ◌+◌, ◌-◌, ◌*◌, ◌/◌, ◌%◌, ◌^◌, ◌<◌, ◌≤◌, Bool, true, false, eqb, leb, List, [], ◌∷◌, ◌++◌, length, get_or, take, drop, set, Some, None, Option, sym, refl, ap, ◌∙◌, append_assoc, append-nil, add-one, arith, get_or-drop, take_all, drop-cons, le-leb}
 use lib.Bits.{bit_and, and_mask}
-use Rattle.std.proofs.lemmas.List.{take_rest, take_more_set, drop_all}
-use Rattle.statuses.specs.declared.Status.{Status}
-use Rattle.statuses.specs.Statuses.{status_of}
+use Rattle.std.proofs.lemmas.List.{take_more_set, drop_all}
 use Rattle.responses.specs.declared.Entry.{Entry}
-use Rattle.responses.specs.Reading.{after, given, maybe, cartridge_off, entry_from, entry_off, consed, each_off, entries_off, bits_of, place_off, places_off, inventory_off, prefixed}
-
-entry_cut : (n : ℕ) (xs : List ℕ) (s : Status) → 3 ≤ length xs → Some s ≡ status_of (get_or xs 2 0)
-    → Some (record { cartridge = n; from = get_or xs 0 0; to = get_or xs 1 0; status = s }, take (length xs - 3) (drop 3 xs)) ≡ entry_from n xs
-entry_cut n [] s h e = absurd (omega arith)
-entry_cut n (a ∷ []) s h e = absurd (omega arith)
-entry_cut n (a ∷ b ∷ []) s h e = absurd (omega arith)
-entry_cut n (a ∷ b ∷ c ∷ xs) s h e =
-    (rw take_rest) ∙ ap (λ (o : Option Status). given o (λ (s : Status). Some (record { cartridge = n; from = a; to = b; status = s }, xs))) e
-
-pub entry_on : (bs : List ℕ) (n : ℕ) (xs : List ℕ) (s : Status) → Some (n, xs) ≡ cartridge_off bs → 3 ≤ length xs → Some s ≡ status_of (get_or xs 2 0)
-    → Some (record { cartridge = n; from = get_or xs 0 0; to = get_or xs 1 0; status = s }, take (length xs - 3) (drop 3 xs)) ≡ entry_off bs
-entry_on bs n xs s c h e = entry_cut n xs s h e ∙ ap (λ (o : Option (ℕ × List ℕ)). after o entry_from) c
+use Rattle.responses.specs.Reading.{after, entry_off, consed, each_off, bits_of, place_off, places_off, inventory_off, prefixed}
 
 pub prefixed_none : {X : Type 0} (o : Option (List X × List ℕ)) → o ≡ prefixed [] o
 prefixed_none None = refl
@@ -38,11 +24,10 @@ each_turn n i rest behind es e l m h =
     ∙ prefixed_push (take i es) e (each_off k behind)
     ∙ ap (λ (xs : List Entry). prefixed xs (each_off k behind)) (sym (take_more_set es i e (omega arith)))
 
-pub each_stop : (n i : ℕ) (rest : List ℕ) (es : List Entry) → i < n → None ≡ entry_off rest → prefixed (take i es) (each_off (n - i) rest) ≡ None
-each_stop n i rest es l h =
-    let q : n - i ≡ suc (n - (i + 1)) = omega arith in
-    ap (λ (j : ℕ). prefixed (take i es) (each_off j rest)) q
-    ∙ ap (λ (o : Option (Entry × List ℕ)). prefixed (take i es) (after o (λ x r. consed x (each_off (n - (i + 1)) r)))) (sym h)
+pub each_end : (n i : ℕ) (rest : List ℕ) (es : List Entry) → n ≤ i → length es ≡ n → prefixed (take i es) (each_off (n - i) rest) ≡ Some (es, rest)
+each_end n i rest es l m =
+    let q : n - i ≡ 0 = omega arith in
+    ap (λ (j : ℕ). prefixed (take i es) (each_off j rest)) q ∙ ap (λ (xs : List Entry). Some (xs, rest)) (append-nil (take i es) ∙ take_all i es (omega arith))
 
 -- The bit of a place.
 core : (m : List ℕ) (j r : ℕ) → r < 8 → j < length m → get_or (bits_of m) (8 * j + r) false ≡ eqb (get_or m j 0 / 2 ^ r % 2) 1
@@ -83,26 +68,10 @@ place_turn bits i rest behind ns n t l m e h =
     ∙ ap (λ (xs : List ℕ). prefixed xs (places_off (drop (suc i) bits) behind)) (sym (take_more_set ns i n m))
     ∙ ap (λ (k : ℕ). prefixed (take (i + 1) (set ns i n)) (places_off (drop k bits) behind)) (sym (add-one i))
 
-pub place_stop : (bits : List Bool) (i : ℕ) (rest : List ℕ) (ns : List ℕ) (t : Bool) → i < length bits → t ≡ get_or bits i false → None ≡ place_off t rest
-    → prefixed (take i ns) (places_off (drop i bits) rest) ≡ None
-place_stop bits i rest ns t l e h =
-    ap (λ (bs : List Bool). prefixed (take i ns) (places_off bs rest)) (drop-cons bits i false l)
-    ∙ ap (λ (b : Bool). prefixed (take i ns) (after (place_off b rest) (λ x r. consed x (places_off (drop (suc i) bits) r)))) (sym e)
-    ∙ ap (λ (o : Option (ℕ × List ℕ)). prefixed (take i ns) (after o (λ x r. consed x (places_off (drop (suc i) bits) r)))) (sym h)
-
 pub place_end : (bits : List Bool) (i : ℕ) (rest : List ℕ) (ns : List ℕ) → length bits ≤ i → length ns ≤ i → prefixed (take i ns) (places_off (drop i bits) rest) ≡ Some (ns, rest)
 place_end bits i rest ns l m =
     ap (λ (bs : List Bool). prefixed (take i ns) (places_off bs rest)) (drop_all i bits l)
     ∙ ap (λ (xs : List ℕ). Some (xs, rest)) (append-nil (take i ns) ∙ take_all i ns m)
 
-pub inventory_at : (bs map : List ℕ) → 32 ≤ length bs → map ≡ take 32 bs → inventory_off bs ≡ places_off (bits_of map) (drop 32 bs)
-inventory_at bs map h e = let l : leb 32 (length bs) ≡ true = le-leb 32 (length bs) h in rw (l, e)
-
--- The count byte and the entries behind it.
-pub entries_cut : (t : Bool) (bs : List ℕ) (o : Option (List Entry × List ℕ)) → t ≡ true → 1 ≤ length bs → get_or bs 0 0 ≤ 21 → o ≡ each_off (get_or bs 0 0) (take (length bs - 1) (drop 1 bs))
-    → after o (λ x r. Some (Some x, r)) ≡ maybe t entries_off bs
-entries_cut t [] o e h k f = absurd (omega arith)
-entries_cut t (a ∷ bs) o e h k f =
-    let l : leb a 21 ≡ true = le-leb a 21 k in
-    ap (λ (p : Option (List Entry × List ℕ)). after p (λ x r. Some (Some x, r))) (f ∙ ap (λ (l : List ℕ). each_off a l) (take_rest (a ∷ bs) 1) ∙ ap (λ (b : Bool). cond b (each_off a bs) None) (sym l))
-    ∙ ap (λ (b : Bool). maybe b entries_off (a ∷ bs)) (sym e)
+pub inventory_at : (bs map rest : List ℕ) → 32 ≤ length bs → map ≡ take 32 bs → rest ≡ drop 32 bs → inventory_off bs ≡ places_off (bits_of map) rest
+inventory_at bs map rest h e f = let l : leb 32 (length bs) ≡ true = le-leb 32 (length bs) h in rw (l, e, f)

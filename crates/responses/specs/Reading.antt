@@ -1,6 +1,6 @@
 -- What a response packet reads as. Anything that no response has (a cut or a longer packet, an unknown kind or status, a layer
 -- that is not the status's, six bytes that stand for no cartridge, more than 21 entries) makes it read as nothing.
-use Rattle.std.specs.Prelude.{ℕ, zero, suc, Bool, true, false, cond, List, [], ◌∷◌, ◌++◌, length, take, drop, Some, None, Option, ◌==◌, nat_le}
+use Rattle.std.specs.Prelude.{ℕ, zero, suc, Bool, true, false, cond, List, [], ◌∷◌, ◌++◌, length, take, drop, Some, None, Option, Result, ◌==◌, nat_le, ok_or}
 use Rattle.std.specs.Borrow.{Bor}
 use Rattle.byte_fields.specs.Taking.{has_bit, one_off, two_off, six_off}
 use Rattle.labels.specs.Labels.{number_of_six}
@@ -10,7 +10,8 @@ use Rattle.responses.specs.declared.Entry.{Entry}
 use Rattle.responses.specs.declared.Response.{Response}
 use Rattle.responses.specs.declared.ResponseKind.{ResponseKind}
 use Rattle.responses.specs.declared.ResponseKind.TheVariants.{Acknowledge, Final}
-use Rattle.responses.specs.declared.reading.Head.{Head}
+use Rattle.responses.specs.declared.Head.{Head}
+use Rattle.responses.specs.declared.UnknownKind.{UnknownKind}
 use Rattle.responses.specs.Responses.{most_entries, Told, held, kind_number, listed, told}
 use Rattle.responses.specs.Writing.{layer_byte}
 
@@ -27,6 +28,10 @@ given (Some x) k = k x
 -- Kind and status have to be there, and known.
 abbrev pub kind_of : ℕ → Option ResponseKind
 kind_of n = cond (n == kind_number Acknowledge) (Some Acknowledge) (cond (n == kind_number Final) (Some Final) None)
+
+-- The same, with the number where it stands for none.
+abbrev pub kind_named : ℕ → Result ResponseKind UnknownKind
+kind_named n = ok_or (kind_of n) (record { code = n })
 
 abbrev pub kind_in : Option ℕ → Option ResponseKind
 kind_in None = None

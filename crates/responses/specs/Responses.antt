@@ -56,4 +56,4 @@ count_of (Some xs) = length xs
 
 -- What a response tells.
 abbrev pub told : Response → Told
-told r = held r.number r.command r.kind r.status r.detail (listed r.entries) (listed r.inventory)
+told r = held r.head.number r.head.command r.head.kind r.head.status r.head.detail (listed r.entries) (listed r.inventory)

@@ -1,8 +1,9 @@
 //! An inventory: a map of 32 bytes with a bit for each place, then six bytes for each place whose
 //! bit stands.
 
+ghost use Rattle.std.proofs.Common.{refl};
 ghost use Rattle.std.specs.Prelude.{◌≡◌, ◌+◌, ◌*◌, ◌%◌, ◌^◌, ◌<◌, ◌≤◌, false, length, slice_index_or};
-ghost use Rattle.byte_fields.specs.Putting.{Wrote};
+ghost use Rattle.byte_fields.specs.Writers.{Added};
 ghost use Rattle.responses.specs.Inventories.{inventory_bytes, label_bytes, labels_bytes, map_bytes};
 ghost use Rattle.byte_fields.specs.Taking.{seen};
 ghost use Rattle.responses.specs.Reading.{bits_of, gathered, inventory_off, maybe, place_off, seen_list};
@@ -10,7 +11,8 @@ ghost use Rattle.responses.specs.Responses.{count_of, listed, most_places};
 
 use crate::MOST_PLACES;
 use crate::cartridges::take_cartridge;
-use byte_fields::put;
+use crate::items::{Item, put_all};
+use byte_fields::Writer;
 use labels::six_for;
 
 /// What the place's bit is worth in its map byte.
@@ -35,41 +37,34 @@ fn inventory_map(inventory: &[u32]) -> [u8; 32]
 }
 
 /// What stands for the cartridge at a place, nothing where there is none.
-fn put_label(buffer: &mut [u8], at: usize, number: u32) -> usize
-    requires { at + 6 ≤ length buffer.old }
-    ensures wrote { Wrote at (label_bytes number) buffer.old buffer.new result }
-    ensures bound { result ≤ at + 6 }
-{
-    if number == 0 {
-        at
-    } else {
-        put(buffer, at, &six_for(number))
+impl Item for u32 {
+    ghost bytes = { label_bytes };
+
+    ghost all = { labels_bytes };
+
+    ghost most = { 6 };
+
+    fn put(self, writer: &mut Writer) {
+        if self != 0 {
+            writer.put(&six_for(self));
+        }
     }
+
+    ghost none = { refl };
+
+    ghost more = { λ x xs. refl };
 }
 
-fn put_labels(buffer: &mut [u8], at: usize, inventory: &[u32]) -> usize
-    requires { at + 6 * length inventory.now ≤ length buffer.old }
-    ensures wrote { Wrote at (labels_bytes inventory.now) buffer.old buffer.new result }
-    ensures bound { result ≤ at + 6 * length inventory.now }
-{
-    let mut at = at;
-    for n in inventory {
-        at = put_label(buffer, at, *n);
-    }
-    at
-}
-
-pub(crate) fn put_inventory(buffer: &mut [u8], at: usize, inventory: Option<&[u32]>) -> usize
-    requires room { at + 32 + 6 * count_of (listed inventory) ≤ length buffer.old }
+pub(crate) fn put_inventory(writer: &mut Writer, inventory: Option<&[u32]>)
+    requires room { writer.old.at + 32 + 6 * count_of (listed inventory) ≤ length writer.old.buffer.now }
     requires count { count_of (listed inventory) ≤ most_places }
-    ensures wrote { Wrote at (inventory_bytes (listed inventory.entry)) buffer.old buffer.new result }
-    ensures bound { result ≤ at + 32 + 6 * count_of (listed inventory.entry) }
+    ensures added { Added (inventory_bytes (listed inventory.entry)) writer.old writer.new }
+    ensures bound { writer.new.at ≤ writer.old.at + 32 + 6 * count_of (listed inventory.entry) }
 {
-    let Some(inventory) = inventory else {
-        return at;
-    };
-    let at = put(buffer, at, &inventory_map(inventory));
-    put_labels(buffer, at, inventory)
+    if let Some(inventory) = inventory {
+        writer.put(&inventory_map(inventory));
+        put_all(writer, inventory);
+    }
 }
 
 /// Whether the bit of the place stands in the map.
@@ -91,22 +86,15 @@ fn take_place(there: bool, bytes: &[u8]) -> Option<(u32, &[u8])>
     }
 }
 
-/// An inventory off the front, into `places`.
+/// An inventory off the front, into `places`. A loop beside that of the entries is plainer than one
+/// for both: here a bit tells of each place whether there is something to take.
 fn take_inventory<'b>(bytes: &'b [u8], places: &mut [u32]) -> Option<&'b [u8]>
     requires { length places.old ≡ most_places }
     ensures { gathered result places.new ≡ inventory_off bytes.now }
 {
-    if bytes.len() < 32 {
-        return None;
-    }
-    let map = &bytes[0..32];
-    let mut rest = &bytes[32..];
-    for place in 0..MOST_PLACES {
-        let Some((number, behind)) = take_place(bit_at(map, place), rest) else {
-            return None;
-        };
-        places[place] = number;
-        rest = behind;
+    let (map, mut rest) = bytes.split_at_checked(32)?;
+    for (place, slot) in places.iter_mut().enumerate() {
+        (*slot, rest) = take_place(bit_at(map, place), rest)?;
     }
     Some(rest)
 }
@@ -115,16 +103,13 @@ fn take_inventory<'b>(bytes: &'b [u8], places: &mut [u32]) -> Option<&'b [u8]>
 pub(crate) fn take_places<'a, 'b>(
     there: bool,
     bytes: &'b [u8],
-    places: &'a mut [u32],
+    places: &'a mut [u32; MOST_PLACES],
 ) -> Option<(Option<&'a [u32]>, &'b [u8])>
-    requires { length places.old ≡ most_places }
     ensures { seen_list result ≡ maybe there inventory_off bytes.now }
 {
     if !there {
         return Some((None, bytes));
     }
-    let Some(rest) = take_inventory(bytes, places) else {
-        return None;
-    };
+    let rest = take_inventory(bytes, places)?;
     Some((Some(&*places), rest))
 }

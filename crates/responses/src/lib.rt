@@ -3,13 +3,16 @@
 
 #![tactic(auto)]
 
-ghost use Rattle.responses.specs.Responses.{final_with, held, kind_number, refused_by, told};
+ghost use Rattle.responses.specs.Reading.{kind_named, told_in};
+ghost use Rattle.responses.specs.Responses.{kind_number, refused_by, told};
 ghost use Rattle.std.specs.Prelude.{◌≡◌, Some, None};
 
 mod cartridges;
 mod entries;
 mod examples;
 mod inventories;
+mod items;
+mod known;
 mod reading;
 mod writing;
 
@@ -28,26 +31,47 @@ pub const MOST_ENTRIES: usize = 21;
 pub const MOST_PLACES: usize = 256;
 
 /// Whether a request was only taken, or is answered for good.
-#[derive(Clone, Copy)]
+#[derive(Clone, Copy, PartialEq, Eq, Debug)]
 pub enum ResponseKind {
     Acknowledge,
     Final,
 }
 
-impl ResponseKind {
-    /// The number that stands for the kind in a response.
-    pub fn code(self) -> u8
-        ensures { result ≡ kind_number self }
-    {
-        match self {
+/// The number that stands for the kind in a response.
+impl From<ResponseKind> for u8 {
+    ghost from_gives = { λ kind code. code ≡ kind_number kind };
+
+    fn from(kind: ResponseKind) -> u8 {
+        match kind {
             ResponseKind::Acknowledge => 1,
             ResponseKind::Final => 3,
         }
     }
 }
 
-/// What became of one cartridge.
-#[derive(Clone, Copy)]
+/// A number that stands for no kind.
+#[derive(Clone, Copy, PartialEq, Eq, Debug)]
+pub struct UnknownKind {
+    pub code: u8,
+}
+
+/// The kind that the number stands for.
+impl TryFrom<u8> for ResponseKind {
+    type Error = UnknownKind;
+
+    ghost try_from_gives = { λ code res. res ≡ kind_named code };
+
+    fn try_from(code: u8) -> Result<ResponseKind, UnknownKind> {
+        match code {
+            1 => Ok(ResponseKind::Acknowledge),
+            3 => Ok(ResponseKind::Final),
+            _ => Err(UnknownKind { code }),
+        }
+    }
+}
+
+/// What became of one cartridge. The default is a blank one, for memory that is not used yet.
+#[derive(Clone, Copy, PartialEq, Eq, Debug, Default)]
 pub struct Entry {
     pub cartridge: u32,
     pub from: u8,
@@ -55,36 +79,31 @@ pub struct Entry {
     pub status: Status,
 }
 
-/// A response. The inventory has a cartridge number for each place, 0 where there is none.
-/// The layer is no field, since it follows from the status.
-#[derive(Clone, Copy)]
-pub struct Response<'a> {
+/// What a response tells before its lists. The layer is no field, since it follows from the status.
+#[derive(Clone, Copy, PartialEq, Eq, Debug)]
+pub struct Head {
     pub number: Option<u16>,
     pub command: Option<u8>,
     pub kind: ResponseKind,
     pub status: Status,
     pub detail: Option<u8>,
+}
+
+/// A response. The inventory has a cartridge number for each place, 0 where there is none.
+#[derive(Clone, Copy, PartialEq, Eq, Debug)]
+pub struct Response<'a> {
+    pub head: Head,
     pub entries: Option<&'a [Entry]>,
     pub inventory: Option<&'a [u32]>,
 }
 
 impl<'a> Response<'a> {
     /// A response without entries and inventory.
-    pub fn plain(
-        number: Option<u16>,
-        command: Option<u8>,
-        kind: ResponseKind,
-        status: Status,
-        detail: Option<u8>,
-    ) -> Response<'static>
-        ensures { told result ≡ held number command kind status detail None None }
+    pub fn plain(head: Head) -> Response<'static>
+        ensures { told result ≡ told_in head None None }
     {
         Response {
-            number,
-            command,
-            kind,
-            status,
-            detail,
+            head,
             entries: None,
             inventory: None,
         }
@@ -99,53 +118,32 @@ impl<'a> Response<'a> {
     ) -> Response<'static>
         ensures { told result ≡ refused_by number command status detail }
     {
-        let detail = if status.has_detail() {
-            Some(detail)
-        } else {
-            None
-        };
-        Response::plain(number, command, ResponseKind::Final, status, detail)
-    }
-
-    /// A final with entries.
-    pub fn with_entries(
-        number: Option<u16>,
-        command: Option<u8>,
-        status: Status,
-        detail: Option<u8>,
-        entries: &'a [Entry],
-    ) -> Response<'a>
-        ensures { told result ≡ final_with number command status detail (Some entries.now) None }
-    {
-        Response {
+        Response::plain(Head {
             number,
             command,
             kind: ResponseKind::Final,
             status,
-            detail,
+            detail: status.has_detail().then_some(detail),
+        })
+    }
+
+    /// A response with entries.
+    pub fn with_entries(head: Head, entries: &'a [Entry]) -> Response<'a>
+        ensures { told result ≡ told_in head (Some entries.now) None }
+    {
+        Response {
             entries: Some(entries),
-            inventory: None,
+            ..Response::plain(head)
         }
     }
 
-    /// A final with an inventory.
-    pub fn with_inventory(
-        number: Option<u16>,
-        command: Option<u8>,
-        status: Status,
-        detail: Option<u8>,
-        inventory: &'a [u32],
-    ) -> Response<'a>
-        ensures { told result ≡ final_with number command status detail None (Some inventory.now) }
+    /// A response with an inventory.
+    pub fn with_inventory(head: Head, inventory: &'a [u32]) -> Response<'a>
+        ensures { told result ≡ told_in head None (Some inventory.now) }
     {
         Response {
-            number,
-            command,
-            kind: ResponseKind::Final,
-            status,
-            detail,
-            entries: None,
             inventory: Some(inventory),
+            ..Response::plain(head)
         }
     }
 }

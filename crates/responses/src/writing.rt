@@ -3,16 +3,17 @@
 ghost use Rattle.std.specs.Prelude.{◌≡◌, ◌≤◌, ◌++◌, length, take, drop, IfOk};
 ghost use Rattle.responses.specs.Responses.{count_of, enough_bytes, listed, most_entries, most_places, told};
 ghost use Rattle.responses.specs.RoundTrips.{ReadsBack};
+ghost use Rattle.std.specs.Result.{result_err};
 ghost use Rattle.responses.specs.Writing.{answer, bytes_of, flag, layer_byte, left, map_of, unwritable};
 
 use crate::entries::put_entries;
 use crate::inventories::put_inventory;
-use crate::{ENOUGH_BYTES, Entry, MOST_ENTRIES, MOST_PLACES, Response};
-use byte_fields::{put, put_one, put_two};
+use crate::{ENOUGH_BYTES, MOST_ENTRIES, MOST_PLACES, Response};
+use byte_fields::Writer;
 use statuses::Status;
 
 /// Why a response is not written.
-#[derive(Clone, Copy)]
+#[derive(Clone, Copy, PartialEq, Eq, Debug)]
 pub enum Unwritable {
     SmallBuffer,
     ManyEntries,
@@ -31,55 +32,42 @@ fn worth(there: bool, bit: u8) -> u8
 pub(crate) fn layer_code(status: Status) -> Option<u8>
     ensures { result ≡ layer_byte status }
 {
-    match status.layer() {
-        Some(layer) => Some(layer.code()),
-        None => None,
-    }
+    status.layer().map(u8::from)
 }
 
-fn count_entries(entries: Option<&[Entry]>) -> usize
-    ensures { result ≡ count_of (listed entries.entry) }
+/// How many items there are.
+fn count<T>(list: Option<&[T]>) -> usize
+    ensures { result ≡ count_of (listed list.entry) }
 {
-    match entries {
-        Some(entries) => entries.len(),
-        None => 0,
-    }
-}
-
-fn count_places(inventory: Option<&[u32]>) -> usize
-    ensures { result ≡ count_of (listed inventory.entry) }
-{
-    match inventory {
-        Some(inventory) => inventory.len(),
-        None => 0,
-    }
+    list.map_or(0, |list| list.len())
 }
 
 impl Response<'_> {
     fn map(&self) -> u8
         ensures { result ≡ map_of (told self.now) }
     {
-        worth(self.number.is_some(), 1)
-            + worth(self.command.is_some(), 2)
+        worth(self.head.number.is_some(), 1)
+            + worth(self.head.command.is_some(), 2)
             + 4
             + 8
-            + worth(layer_code(self.status).is_some(), 16)
-            + worth(self.detail.is_some(), 32)
+            + worth(layer_code(self.head.status).is_some(), 16)
+            + worth(self.head.detail.is_some(), 32)
             + worth(self.entries.is_some(), 64)
             + worth(self.inventory.is_some(), 128)
     }
 
-    fn why_not(&self, room: usize) -> Option<Unwritable>
-        ensures { result ≡ unwritable room (told self.now) }
+    /// Whether it is written into a buffer of `room` bytes.
+    fn check(&self, room: usize) -> Result<(), Unwritable>
+        ensures { result_err result ≡ unwritable room (told self.now) }
     {
         if room < ENOUGH_BYTES {
-            Some(Unwritable::SmallBuffer)
-        } else if count_entries(self.entries) > MOST_ENTRIES {
-            Some(Unwritable::ManyEntries)
-        } else if count_places(self.inventory) > MOST_PLACES {
-            Some(Unwritable::ManyPlaces)
+            Err(Unwritable::SmallBuffer)
+        } else if count(self.entries) > MOST_ENTRIES {
+            Err(Unwritable::ManyEntries)
+        } else if count(self.inventory) > MOST_PLACES {
+            Err(Unwritable::ManyPlaces)
         } else {
-            None
+            Ok(())
         }
     }
 
@@ -91,14 +79,17 @@ impl Response<'_> {
         ensures end { result ≡ length (bytes_of (told self.now)) }
         ensures bound { result ≤ enough_bytes }
     {
-        let at = put(buffer, 0, &[self.map()]);
-        let at = put_two(buffer, at, self.number);
-        let at = put_one(buffer, at, self.command);
-        let at = put(buffer, at, &[self.kind.code(), self.status.code()]);
-        let at = put_one(buffer, at, layer_code(self.status));
-        let at = put_one(buffer, at, self.detail);
-        let at = put_entries(buffer, at, self.entries);
-        put_inventory(buffer, at, self.inventory)
+        let head = self.head;
+        let mut writer = Writer::new(buffer);
+        writer.put(&[self.map()]);
+        writer.put_field(head.number);
+        writer.put_field(head.command);
+        writer.put(&[u8::from(head.kind), u8::from(head.status)]);
+        writer.put_field(layer_code(head.status));
+        writer.put_field(head.detail);
+        put_entries(&mut writer, self.entries);
+        put_inventory(&mut writer, self.inventory);
+        writer.len()
     }
 
     /// Writes the response to the front of the buffer and says how long it is, or says why it is
@@ -109,9 +100,7 @@ impl Response<'_> {
         ensures bound { IfOk result (λ n. n ≤ enough_bytes) }
         ensures reads { IfOk result (λ n. ReadsBack (told self.now) (take n buffer.new)) }
     {
-        match self.why_not(buffer.len()) {
-            Some(cause) => Err(cause),
-            None => Ok(self.put(buffer)),
-        }
+        self.check(buffer.len())?;
+        Ok(self.put(buffer))
     }
 }

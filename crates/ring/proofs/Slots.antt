@@ -3,7 +3,7 @@ use Rattle.std.proofs.lemmas.List.{length-take-le, length-drop, length-append, g
 use Rattle.std.proofs.lemmas.Bool.{lt-ltb, le-ltb, cases_lt, cases_eq, cond-true, cond-false}
 use Rattle.std.proofs.lemmas.Bool.Decides.{nat_tests}
 use Rattle.ring.specs.declared.queue.Ring.{Ring}
-use Rattle.ring.specs.Queue.{Kept, Sound, records}
+use Rattle.ring.specs.Queue.{Kept, records}
 use Rattle.std.proofs.lemmas.Option.{slice_get-get_or, slice_get_past}
 use Rattle.std.specs.List.{slice_get}
 use Rattle.ring.specs.Order.{in_order, slot_of, rest}
@@ -150,47 +150,43 @@ in_order_set {X} capacity head count slots i x a b c f =
     ∙ sym (get_or-set_other old i k x d ne))
     (cases_eq k i))
 
--- a slot in use is none of those out of use
-pub in_order_rest : {X : Type 0} (capacity head : ℕ) (slots : List X) (i : ℕ) (x : X) → head ≤ capacity → i < capacity → drop capacity (set slots (slot_of capacity head i) x) ≡ drop capacity slots
-in_order_rest capacity head slots i x b h = drop-set-lt capacity slots (slot_of capacity head i) x (slot_lt capacity head i b h)
-
--- what is sound of a ring with these parts
-pub sound : {X : Type 0} (capacity head count : ℕ) (slots : List X) → capacity ≤ length slots → head ≤ capacity → count ≤ capacity → (capacity ≤ length slots) × (head ≤ capacity) × (count ≤ capacity) × (length (in_order capacity head count slots) ≡ count)
-sound capacity head count slots a b c = (a, b, c, length_in_order capacity head count slots a b c)
+-- The records are as many as counted.
+pub length_records : {X : Type 0} (q : Ring X) → length (records q) ≡ q.count
+length_records q = length_in_order q.capacity q.head q.count q.slots.now q.lent q.headed q.counted
 
 -- Over a ring, at a slot `p` that is said to be the i-th oldest's.
 
-pub pushed : {X : Type 0} (q : Ring X) (p : ℕ) (x : X) → Sound q → p ≡ slot_of q.capacity q.head q.count → q.count < q.capacity → in_order q.capacity q.head (q.count + 1) (set q.slots.now p x) ≡ records q ++ x ∷ []
-pushed q p x o e h =
+pub pushed : {X : Type 0} (q : Ring X) (p : ℕ) (x : X) → p ≡ slot_of q.capacity q.head q.count → q.count < q.capacity → in_order q.capacity q.head (q.count + 1) (set q.slots.now p x) ≡ records q ++ x ∷ []
+pushed q p x e h =
     ap (λ (n : ℕ). in_order q.capacity q.head (q.count + 1) (set q.slots.now n x)) e
-    ∙ in_order_push q.capacity q.head q.count q.slots.now x o.0 o.1 h
+    ∙ in_order_push q.capacity q.head q.count q.slots.now x q.lent q.headed h
 
-pub replaced : {X : Type 0} (q : Ring X) (p i : ℕ) (x : X) → Sound q → p ≡ slot_of q.capacity q.head i → i < q.count → in_order q.capacity q.head q.count (set q.slots.now p x) ≡ set (records q) i x
-replaced q p i x o e h =
+pub replaced : {X : Type 0} (q : Ring X) (p i : ℕ) (x : X) → p ≡ slot_of q.capacity q.head i → i < q.count → in_order q.capacity q.head q.count (set q.slots.now p x) ≡ set (records q) i x
+replaced q p i x e h =
     ap (λ (n : ℕ). in_order q.capacity q.head q.count (set q.slots.now n x)) e
-    ∙ in_order_set q.capacity q.head q.count q.slots.now i x o.0 o.1 o.2 h
+    ∙ in_order_set q.capacity q.head q.count q.slots.now i x q.lent q.headed q.counted h
 
-pub unused : {X : Type 0} (q : Ring X) (p : ℕ) (x : X) → Sound q → p < q.capacity → drop q.capacity (set q.slots.now p x) ≡ drop q.capacity q.slots.now
-unused q p x o h = drop-set-lt q.capacity q.slots.now p x h
+pub unused : {X : Type 0} (q : Ring X) (p : ℕ) (x : X) → p < q.capacity → drop q.capacity (set q.slots.now p x) ≡ drop q.capacity q.slots.now
+unused q p x h = drop-set-lt q.capacity q.slots.now p x h
 
 some_one : {X : Type 0} (xs : List X) → 0 < length xs → X
 some_one [] h = absurd (omega arith)
 some_one (x ∷ xs) h = x
 
-pub advanced : {X : Type 0} (q : Ring X) (s : ℕ) → Sound q → s ≡ slot_of q.capacity q.head 1 → 0 < length (records q) → in_order q.capacity s (q.count - 1) q.slots.now ≡ rest (records q)
-advanced q s o f h =
+pub advanced : {X : Type 0} (q : Ring X) (s : ℕ) → s ≡ slot_of q.capacity q.head 1 → 0 < length (records q) → in_order q.capacity s (q.count - 1) q.slots.now ≡ rest (records q)
+advanced q s f h =
     ap (λ (n : ℕ). in_order q.capacity n (q.count - 1) q.slots.now) f
-    ∙ sym (ap rest (in_order_pop q.capacity q.head q.count q.slots.now (some_one (records q) h) o.0 o.1 o.2 (omega (arith, o.3))))
+    ∙ sym (ap rest (in_order_pop q.capacity q.head q.count q.slots.now (some_one (records q) h) q.lent q.headed q.counted (omega (arith, length_records q))))
 
-pub got : {X : Type 0} (q : Ring X) (p i : ℕ) (d : X) → Sound q → p ≡ slot_of q.capacity q.head i → i < q.count → Some (get_or q.slots.now p d) ≡ slice_get (records q) i
-got q p i d o e h =
-    let l : i < length (records q) = omega (arith, o.3) in
+pub got : {X : Type 0} (q : Ring X) (p i : ℕ) (d : X) → p ≡ slot_of q.capacity q.head i → i < q.count → Some (get_or q.slots.now p d) ≡ slice_get (records q) i
+got q p i d e h =
+    let l : i < length (records q) = omega (arith, length_records q) in
     ap (λ (n : ℕ). Some (get_or q.slots.now n d)) e
-    ∙ ap (λ y. Some y) (sym (get_d_in_order q.capacity q.head q.count q.slots.now o.0 o.1 o.2 i d h))
+    ∙ ap (λ y. Some y) (sym (get_d_in_order q.capacity q.head q.count q.slots.now q.lent q.headed q.counted i d h))
     ∙ sym (slice_get-get_or (records q) i d l)
 
-pub past : {X : Type 0} (q : Ring X) (i : ℕ) → Sound q → q.count ≤ i → None ≡ slice_get (records q) i
-past q i o h = sym (slice_get_past (records q) i (omega (arith, o.3)))
+pub past : {X : Type 0} (q : Ring X) (i : ℕ) → q.count ≤ i → None ≡ slice_get (records q) i
+past q i h = sym (slice_get_past (records q) i (omega (arith, length_records q)))
 
 pub none_in_order : {X : Type 0} (capacity : ℕ) (slots : List X) → in_order capacity 0 0 slots ≡ []
 unfolding in_order

@@ -2,8 +2,8 @@
 //!
 //! It is proved for any number of slots and any limit on how many of them it uses.
 
-#![tactic(auto)]
+#![tactic(auto, using(crate::proofs::Slots::length_records))]
 
 mod queue;
 
-pub use queue::{Change, Condition, Ring};
+pub use queue::Ring;

@@ -1,4 +1,4 @@
-ghost use Rattle.std.specs.Prelude.{◌≡◌, Bool};
+ghost use Rattle.std.specs.Prelude.{◌≤◌, length};
 
 mod calls;
 mod every;
@@ -6,27 +6,16 @@ mod slots;
 
 /// A first-in-first-out queue in lent slots.
 ///
-/// It uses the first `capacity` of them. The oldest record stands at `head`, or at 0 where `head` is `capacity`.
+/// Its host lends the memory, so it is no collection of the library. It uses the first `capacity` of the
+/// slots. The oldest record stands at `head`, or at 0 where `head` is `capacity`.
+// No model: what its calls say of slots out of use is no part of a list of records.
 #[derive(Drop)]
 pub struct Ring<'a, T> {
     slots: &'a mut [T],
     capacity: usize,
     head: usize,
     count: usize,
-}
-
-/// A condition on a record.
-pub trait Condition<T> {
-    ghost met: { Self → T → Bool };
-
-    fn is_met(&self, x: T) -> bool
-        ensures { result ≡ met self.now x };
-}
-
-/// A change made to a record.
-pub trait Change<T> {
-    ghost turns: { Self → T → T };
-
-    fn change(&self, x: T) -> T
-        ensures { result ≡ turns self.now x };
+    ghost lent: { capacity ≤ length slots.now },
+    ghost headed: { head ≤ capacity },
+    ghost counted: { count ≤ capacity },
 }

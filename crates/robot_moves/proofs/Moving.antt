@@ -7,12 +7,10 @@ use Rattle.robots.specs.Meaning.{Meaning, Sound, count}
 use Rattle.robots.specs.Acts.{lift_refusal, lifted, set_refusal, set_down, with_held}
 use Rattle.robots.specs.Cartridges.{SameCartridges, cartridges_of}
 use Rattle.robots.proofs.Acts.{lift_keeps, set_keeps}
-use Rattle.robot_moves.specs.declared.slip.token.Slip.{Slip}
-use Rattle.robot_moves.specs.declared.slip.token.Found.{Found}
 use Rattle.robot_moves.specs.declared.search.Wanted.TheVariants.{FreeCell}
 use Rattle.robot_moves.specs.declared.movement.Target.{Target}
 use Rattle.robot_moves.specs.declared.movement.Stopped.TheVariants.{NoTarget, Refused}
-use Rattle.robot_moves.specs.Slips.{slip_from, slip_answer, set_by_slip, found}
+use Rattle.robot_moves.specs.Slips.{Slip, Found, slip_from, slip_answer, set_by_slip, found}
 use Rattle.robot_moves.specs.Movement.{Movement, movement, lifted_for, brought_to, set_at, sought, stopped, Emptying, cleared, hand_emptied}
 use Rattle.robot_moves.specs.Search.{next_free_cell, up_to}
 use Rattle.robot_moves.proofs.Places.{first_passes}
@@ -26,38 +24,38 @@ refused m p q t f e h k =
     ap (λ (o : Option Fault). lifted_for o t m p) e ∙ ap (λ (o : Option ℕ). brought_to o m p) h ∙ ap (λ (o : Option Fault). set_at o m p q) k
 
 -- Nowhere to go: m is before the lift, m1 after it.
-pub no_target_fits : (m m1 : Meaning) (p : ℕ) (s : Slip) → Sound m → Ok s ≡ slip_answer m p → m1 ≡ lifted m p → set_refusal m1 s.from ≡ None
+pub no_target_fits : (m m1 : Meaning) (p : ℕ) (s : Slip) → Sound m → Ok s ≡ slip_answer m p → m1 ≡ lifted m p → set_refusal m1 s.of.from ≡ None
 no_target_fits m m1 p s sound g l =
     let e = was_granted (lift_refusal m p) (slip_from p) s g in
-    let et : s.from ≡ p = ap (λ (z : Slip). z.from) (granted_value (lift_refusal m p) (slip_from p) s g) in
+    let et : s.of.from ≡ p = ap (λ (z : Slip). z.of.from) (granted_value (lift_refusal m p) (slip_from p) s g) in
     rw (l, et) (back_fits m p sound e)
 
 -- Here m2 is after the way back.
-pub no_target : (m m1 m2 : Meaning) (p : ℕ) (t : Target) (s : Slip) → Ok s ≡ slip_answer m p → m1 ≡ lifted m p → None ≡ sought t m1 p → m2 ≡ with_held m1 s.from m1.hand 0 → (Err NoTarget ≡ (movement m p t).answer) × (m2 ≡ (movement m p t).robot)
+pub no_target : (m m1 m2 : Meaning) (p : ℕ) (t : Target) (s : Slip) → Ok s ≡ slip_answer m p → m1 ≡ lifted m p → None ≡ sought t m1 p → m2 ≡ with_held m1 s.of.from m1.hand 0 → (Err NoTarget ≡ (movement m p t).answer) × (m2 ≡ (movement m p t).robot)
 no_target m m1 m2 p t s g l n b =
     let e = was_granted (lift_refusal m p) (slip_from p) s g in
-    let et : s.from ≡ p = ap (λ (z : Slip). z.from) (granted_value (lift_refusal m p) (slip_from p) s g) in
+    let et : s.of.from ≡ p = ap (λ (z : Slip). z.of.from) (granted_value (lift_refusal m p) (slip_from p) s g) in
     let k = missed m p t e (ap (λ (z : Meaning). sought t z p) (sym l) ∙ sym n) in
     let eb : m2 ≡ m = b ∙ rw (l, et) (back_is m p e) in
     (sym (ap (λ (z : Movement). z.answer) k), eb ∙ sym (ap (λ (z : Movement). z.robot) k))
 
 -- The set is refused: m2 is after it.
-pub refused_fits : (m m1 m2 : Meaning) (p q : ℕ) (s t : Slip) (f : Fault) → Sound m → Ok s ≡ slip_answer m p → m1 ≡ lifted m p → Err (t, f) ≡ set_by_slip s m1 q → m2 ≡ set_down m1 q → set_refusal m2 t.from ≡ None
+pub refused_fits : (m m1 m2 : Meaning) (p q : ℕ) (s t : Slip) (f : Fault) → Sound m → Ok s ≡ slip_answer m p → m1 ≡ lifted m p → Err (t, f) ≡ set_by_slip s m1 q → m2 ≡ set_down m1 q → set_refusal m2 t.of.from ≡ None
 refused_fits m m1 m2 p q s t f sound g l b d =
     let e = was_granted (lift_refusal m p) (slip_from p) s g in
     let w = slip_refused s (set_refusal m1 q) t f b in
     let em : m2 ≡ lifted m p = d ∙ set_same m1 q f w.0 ∙ l in
-    let et : t.from ≡ p = ap (λ (z : Slip). z.from) (w.1 ∙ granted_value (lift_refusal m p) (slip_from p) s g) in
+    let et : t.of.from ≡ p = ap (λ (z : Slip). z.of.from) (w.1 ∙ granted_value (lift_refusal m p) (slip_from p) s g) in
     rw (em, et) (back_fits m p sound e)
 
 -- Here m3 is after the way back.
-pub set_refused : (m m1 m2 m3 : Meaning) (p q : ℕ) (a : Target) (s t : Slip) (f : Fault) → Ok s ≡ slip_answer m p → m1 ≡ lifted m p → Some q ≡ sought a m1 p → Err (t, f) ≡ set_by_slip s m1 q → m2 ≡ set_down m1 q → m3 ≡ with_held m2 t.from m2.hand 0 → (Err (Refused f) ≡ (movement m p a).answer) × (m3 ≡ (movement m p a).robot)
+pub set_refused : (m m1 m2 m3 : Meaning) (p q : ℕ) (a : Target) (s t : Slip) (f : Fault) → Ok s ≡ slip_answer m p → m1 ≡ lifted m p → Some q ≡ sought a m1 p → Err (t, f) ≡ set_by_slip s m1 q → m2 ≡ set_down m1 q → m3 ≡ with_held m2 t.of.from m2.hand 0 → (Err (Refused f) ≡ (movement m p a).answer) × (m3 ≡ (movement m p a).robot)
 set_refused m m1 m2 m3 p q a s t f g l n r d b =
     let e = was_granted (lift_refusal m p) (slip_from p) s g in
     let w = slip_refused s (set_refusal m1 q) t f r in
     let k = refused m p q a f e (ap (λ (z : Meaning). sought a z p) (sym l) ∙ sym n) (ap (λ (z : Meaning). set_refusal z q) (sym l) ∙ w.0) in
     let em : m2 ≡ lifted m p = d ∙ set_same m1 q f w.0 ∙ l in
-    let et : t.from ≡ p = ap (λ (z : Slip). z.from) (w.1 ∙ granted_value (lift_refusal m p) (slip_from p) s g) in
+    let et : t.of.from ≡ p = ap (λ (z : Slip). z.of.from) (w.1 ∙ granted_value (lift_refusal m p) (slip_from p) s g) in
     let eb : m3 ≡ m = b ∙ rw (em, et) (back_is m p e) in
     (sym (ap (λ (z : Movement). z.answer) k), eb ∙ sym (ap (λ (z : Movement). z.robot) k))
 

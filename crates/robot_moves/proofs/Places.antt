@@ -1,32 +1,17 @@
 -- Searches among the places.
-use Rattle.std.proofs.Common.{◌≡◌, ℕ, zero, suc, ◌+◌, ◌-◌, ◌<◌, ◌≤◌, true, false, cond, List, [], ◌∷◌, ◌++◌, Some, None, sym, refl, ap, ⊎_elim, add-zero, zero-add, arith}
+use Rattle.std.proofs.Common.{◌≡◌, ℕ, zero, suc, ◌+◌, ◌-◌, ◌≤◌, true, false, cond, List, [], ◌∷◌, ◌++◌, count_by, Some, None, sym, refl, ap, ◌∙◌, ⊎_elim, add-zero, zero-add, arith}
 use Rattle.std.proofs.lemmas.Bool.{le-ltb, cases_Bool}
+use Rattle.std.proofs.lemmas.List.Sums.{sum_by-cons}
 use Rattle.std.specs.List.{range_with_len}
 use Rattle.robots.specs.Meaning.{Meaning, count}
 use Rattle.robot_moves.specs.declared.search.Wanted.{Wanted}
 use Rattle.robot_moves.specs.declared.search.Wanted.TheVariants.{FreeCell}
 use Rattle.robot_moves.specs.Search.{passes, first_of, next_free_cell, of_kind, is_port, ports_among, up_to}
 
--- One turn of a loop over places, and its end.
-pub up_to_more : (a b : ℕ) → a < b → up_to a b ≡ a ∷ up_to (a + 1) b
-up_to_more a b h =
-    let e : b - a ≡ suc (b - (a + 1)) = omega arith in
-    rw e refl
-
-pub up_to_none : (a b : ℕ) → b ≤ a → up_to a b ≡ []
-up_to_none a b h = let e : b - a ≡ 0 = omega arith in rw e refl
-
-pub first_hit : (w : Wanted) (m : Meaning) (a b : ℕ) → a < b → passes w m a ≡ true → first_of w m (up_to a b) ≡ Some a
-first_hit w m a b h t = rw (up_to_more a b h) (rw t refl)
-
-pub first_miss : (w : Wanted) (m : Meaning) (a b : ℕ) → a < b → passes w m a ≡ false → first_of w m (up_to a b) ≡ first_of w m (up_to (a + 1) b)
-first_miss w m a b h t = rw (up_to_more a b h) (rw t refl)
-
-pub first_none : (w : Wanted) (m : Meaning) (a b : ℕ) → b ≤ a → first_of w m (up_to a b) ≡ None
-first_none w m a b h = ap (first_of w m) (up_to_none a b h)
-
-pub ports_more : (m : Meaning) (a b : ℕ) → a < b → ports_among m (up_to a b) ≡ cond (of_kind is_port m a) 1 0 + ports_among m (up_to (a + 1) b)
-ports_more m a b h = ap (ports_among m) (up_to_more a b h)
+-- The ports that there are, in the library's words.
+pub ports_counted : (m : Meaning) (ps : List ℕ) → count_by (of_kind is_port m) ps ≡ ports_among m ps
+ports_counted m [] = refl
+ports_counted m (p ∷ ps) = sum_by-cons (λ x. cond (of_kind is_port m x) 1 0) p ps ∙ ap (λ n. cond (of_kind is_port m p) 1 0 + n) (ports_counted m ps)
 
 -- What a search finds is what it looks for.
 pub first_passes : (w : Wanted) (m : Meaning) (xs : List ℕ) (i : ℕ) → first_of w m xs ≡ Some i → passes w m i ≡ true
@@ -38,14 +23,6 @@ first_passes w m (x ∷ xs) i e =
     (cases_Bool (passes w m x))
 
 -- The first in two lists of places, one behind the other.
-pub first_then : (w : Wanted) (m : Meaning) (xs ys : List ℕ) → first_of w m xs ≡ None → first_of w m (xs ++ ys) ≡ first_of w m ys
-first_then w m [] ys e = refl
-first_then w m (x ∷ xs) ys e = let ih = first_then w m xs ys in grind (arith, cases_Bool (passes w m x))
-
-pub first_here : (w : Wanted) (m : Meaning) (xs ys : List ℕ) (i : ℕ) → first_of w m xs ≡ Some i → first_of w m (xs ++ ys) ≡ Some i
-first_here w m [] ys i e = grind arith
-first_here w m (x ∷ xs) ys i e = let ih = first_here w m xs ys i in grind (arith, cases_Bool (passes w m x))
-
 first_end : (w : Wanted) (m : Meaning) (xs ys : List ℕ) → first_of w m ys ≡ None → first_of w m (xs ++ ys) ≡ first_of w m xs
 first_end w m [] ys e = e
 first_end w m (x ∷ xs) ys e = let ih = first_end w m xs ys e in rw ih refl

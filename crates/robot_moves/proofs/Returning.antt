@@ -6,8 +6,7 @@ use Rattle.robots.specs.declared.fault.Fault.{Fault}
 use Rattle.robots.specs.Meaning.{Meaning, Sound, count, held_at}
 use Rattle.robots.specs.Acts.{answered, left, lift_refusal, lifted, set_refusal, set_down, with_held}
 use Rattle.robots.proofs.Acts.{lift_tells}
-use Rattle.robot_moves.specs.declared.slip.token.Slip.{Slip}
-use Rattle.robot_moves.specs.Slips.{or_slip}
+use Rattle.robot_moves.specs.Slips.{Slip, or_slip}
 
 -- What an answer tells of the refusal.
 pub was_granted : {A : Type 0} (o : Option Fault) (x y : A) → Ok y ≡ answered o x → o ≡ None

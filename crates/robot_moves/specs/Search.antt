@@ -1,5 +1,5 @@
 -- Searches for a place.
-use Rattle.std.specs.Prelude.{ℕ, ◌+◌, ◌-◌, Bool, true, false, cond, not, ◌&&◌, List, [], ◌∷◌, ◌++◌, Some, None, Option, ◌==◌, nat_lt}
+use Rattle.std.specs.Prelude.{ℕ, ◌+◌, ◌-◌, Bool, true, false, cond, not, ◌&&◌, List, [], ◌∷◌, ◌++◌, find, Option, ◌==◌, nat_lt}
 use Rattle.std.specs.List.{range_with_len}
 use Rattle.robots.specs.declared.kind.Kind.{Kind}
 use Rattle.robots.specs.declared.kind.Kind.TheVariants.{Cell, Drive, Port}
@@ -23,6 +23,12 @@ is_port Cell = false
 is_port Drive = false
 is_port Port = true
 
+-- A kind is the one that is asked for.
+abbrev pub is_kind : Kind → Kind → Bool
+is_kind Cell = is_cell
+is_kind Drive = is_drive
+is_kind Port = is_port
+
 -- There is a place p, and its kind passes the test.
 abbrev pub of_kind : (Kind → Bool) → Meaning → ℕ → Bool
 of_kind test m p = nat_lt p (count m) && test (kind_of m p)
@@ -39,8 +45,7 @@ passes FullPort m p = of_kind is_port m p && not (held_at m p == 0)
 
 -- The first of a list of places that passes.
 abbrev pub first_of : Wanted → Meaning → List ℕ → Option ℕ
-first_of w m [] = None
-first_of w m (p ∷ ps) = cond (passes w m p) (Some p) (first_of w m ps)
+first_of w m ps = find (passes w m) ps
 
 -- The numbers from a up to, and without, b.
 abbrev pub up_to : ℕ → ℕ → List ℕ

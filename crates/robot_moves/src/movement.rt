@@ -11,7 +11,7 @@ use robots::fault::Fault;
 use robots::robot::{Questions, Robot};
 
 /// Where a cartridge goes.
-#[derive(Clone, Copy)]
+#[derive(Clone, Copy, PartialEq, Eq, Debug)]
 pub enum Target {
     /// To this place.
     At(u16),
@@ -22,14 +22,14 @@ pub enum Target {
 }
 
 /// A cartridge that was moved, and where it is now.
-#[derive(Clone, Copy)]
+#[derive(Clone, Copy, PartialEq, Eq, Debug)]
 pub struct Moved {
     pub cartridge: u32,
     pub to: u16,
 }
 
 /// Why a cartridge was not moved.
-#[derive(Clone, Copy)]
+#[derive(Clone, Copy, PartialEq, Eq, Debug)]
 pub enum Stopped {
     /// No place of the kind that was sought is free.
     NoTarget,

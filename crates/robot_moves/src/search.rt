@@ -1,7 +1,7 @@
 //! Searches for a place, by questions alone.
 
-ghost use Rattle.std.specs.Prelude.{◌≡◌, ◌+◌, ◌<◌, ◌≤◌, IfSome};
-ghost use Rattle.robot_moves.specs.Search.{first_of, is_drive, is_port, lowest_free_port, next_free_cell, next_full_port, of_kind, passes, port_count, up_to};
+ghost use Rattle.std.specs.Prelude.{◌≡◌, ◌+◌, ◌<◌, ◌≤◌, IfSome, count_by};
+ghost use Rattle.robot_moves.specs.Search.{first_of, is_kind, lowest_free_port, next_free_cell, next_full_port, of_kind, passes, port_count, up_to};
 ghost use Rattle.robot_moves.specs.declared.search.Wanted.TheVariants.{FreeCell};
 ghost use Rattle.robots.specs.Meaning.{count};
 
@@ -9,7 +9,8 @@ use robots::kind::Kind;
 use robots::robot::Questions;
 
 /// A place to look for.
-#[derive(Clone, Copy)]
+// A value and no closure: the definitions of the searches name it.
+#[derive(Clone, Copy, PartialEq, Eq, Debug)]
 pub enum Wanted {
     /// An empty cell in service.
     FreeCell,
@@ -19,24 +20,11 @@ pub enum Wanted {
     FullPort,
 }
 
-/// Whether there is a port place p.
-pub fn is_port<Q: Questions>(robot: &Q, p: u16) -> bool
-    ensures { result ≡ of_kind is_port (Q.meaning robot.now) p }
+/// Whether there is a place p of this kind.
+pub fn is_of<Q: Questions>(robot: &Q, kind: Kind, p: u16) -> bool
+    ensures { result ≡ of_kind (is_kind kind) (Q.meaning robot.now) p }
 {
-    match robot.kind(p) {
-        Some(Kind::Port) => true,
-        _ => false,
-    }
-}
-
-/// Whether there is a drive p.
-pub fn is_drive<Q: Questions>(robot: &Q, p: u16) -> bool
-    ensures { result ≡ of_kind is_drive (Q.meaning robot.now) p }
-{
-    match robot.kind(p) {
-        Some(Kind::Drive) => true,
-        _ => false,
-    }
+    robot.kind(p) == Some(kind)
 }
 
 /// Whether the place p is one that is looked for.
@@ -61,12 +49,7 @@ fn first_between<Q: Questions>(robot: &Q, wanted: Wanted, from: u16, to: u16) ->
     ensures value { result ≡ first_of wanted (Q.meaning robot.now) (up_to from to) }
     ensures within { IfSome result (λ p. p < to) }
 {
-    for i in from..to {
-        if is_wanted(robot, wanted, i) {
-            return Some(i);
-        }
-    }
-    None
+    (from..to).find(|p| is_wanted(robot, wanted, *p))
 }
 
 /// The lowest free cell up to p, and with it.
@@ -85,10 +68,7 @@ pub fn next_free_cell<Q: Questions>(robot: &Q, p: u16) -> Option<u16>
     if p >= n {
         return first_between(robot, Wanted::FreeCell, 0, n);
     }
-    match first_between(robot, Wanted::FreeCell, p + 1, n) {
-        Some(i) => Some(i),
-        None => free_cell_up_to(robot, p),
-    }
+    first_between(robot, Wanted::FreeCell, p + 1, n).or_else(|| free_cell_up_to(robot, p))
 }
 
 /// The lowest free port place.
@@ -106,16 +86,18 @@ pub fn next_full_port<Q: Questions>(robot: &Q, p: u16) -> Option<u16>
     first_between(robot, Wanted::FullPort, p, robot.places())
 }
 
+/// How many places are of this kind.
+fn count_of<Q: Questions>(robot: &Q, kind: Kind) -> u16
+    ensures { result ≡ count_by (of_kind (is_kind kind) (Q.meaning robot.now)) (up_to 0 (count (Q.meaning robot.now))) }
+{
+    (0..robot.places())
+        .filter(|p| is_of(robot, kind, *p))
+        .count() as u16
+}
+
 /// How many port places there are.
 pub fn port_count<Q: Questions>(robot: &Q) -> u16
     ensures { result ≡ port_count (Q.meaning robot.now) }
 {
-    let n = robot.places();
-    let mut found = 0;
-    for i in 0..n {
-        if is_port(robot, i) {
-            found += 1;
-        }
-    }
-    found
+    count_of(robot, Kind::Port)
 }

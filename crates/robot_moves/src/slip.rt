@@ -10,17 +10,14 @@ use robots::robot::{Questions, Robot};
 
 mod token;
 
-pub use token::{Found, Slip};
+pub use token::{Found, InHand, Lifted, Slip};
 
 /// Lifts the cartridge at p, and gives the slip for it.
 pub fn lift<R: Robot>(robot: &mut R, p: u16) -> Result<Slip, Fault>
     ensures answer { result ≡ slip_answer (R.Questions.meaning robot.old) p }
     ensures after { R.Questions.meaning robot.new ≡ lifted (R.Questions.meaning robot.old) p }
 {
-    match robot.lift(p) {
-        Ok(_) => Ok(Slip::new(p)),
-        Err(fault) => Err(fault),
-    }
+    robot.lift(p).map(|_| Slip::new(Lifted { from: p }))
 }
 
 /// Sets the cartridge down at `to`, which spends the slip; where that is refused the slip comes back.
@@ -28,9 +25,10 @@ pub fn set<R: Robot>(slip: Slip, robot: &mut R, to: u16) -> Result<(), (Slip, Fa
     ensures answer { result ≡ set_by_slip slip (R.Questions.meaning robot.old) to }
     ensures after { R.Questions.meaning robot.new ≡ set_down (R.Questions.meaning robot.old) to }
 {
+    // No `map_err`: a closure that is not called would let the slip go.
     match robot.set(to) {
-        Ok(_) => {
-            slip.spend();
+        Ok(()) => {
+            let _ = slip.spend();
             Ok(())
         }
         Err(fault) => Err((slip, fault)),
@@ -39,10 +37,10 @@ pub fn set<R: Robot>(slip: Slip, robot: &mut R, to: u16) -> Result<(), (Slip, Fa
 
 /// Sets the cartridge down where it was lifted from; whoever calls shows that this cannot be refused.
 pub fn put_back<R: Robot>(slip: Slip, robot: &mut R)
-    requires { set_refusal (R.Questions.meaning robot.old) slip.from ≡ None }
-    ensures { R.Questions.meaning robot.new ≡ with_held (R.Questions.meaning robot.old) slip.from (R.Questions.meaning robot.old).hand 0 }
+    requires { set_refusal (R.Questions.meaning robot.old) slip.of.from ≡ None }
+    ensures { R.Questions.meaning robot.new ≡ with_held (R.Questions.meaning robot.old) slip.of.from (R.Questions.meaning robot.old).hand 0 }
 {
-    let _ = robot.set(slip.spend());
+    let _ = robot.set(slip.spend().from);
 }
 
 /// The token for a cartridge that is in the hand, if there is one.
@@ -53,7 +51,7 @@ pub fn find<Q: Questions>(robot: &Q) -> Option<Found>
     if cartridge == 0 {
         return None;
     }
-    Some(Found::new(cartridge))
+    Some(Found::new(InHand { cartridge }))
 }
 
 /// Sets a cartridge that was found in the hand down at `to`; whoever calls shows that this cannot be refused.
@@ -61,7 +59,7 @@ pub fn set_found<R: Robot>(token: Found, robot: &mut R, to: u16)
     requires { set_refusal (R.Questions.meaning robot.old) to ≡ None }
     ensures { R.Questions.meaning robot.new ≡ set_down (R.Questions.meaning robot.old) to }
 {
-    token.spend();
+    let _ = token.spend();
     let _ = robot.set(to);
 }
 
@@ -69,5 +67,5 @@ pub fn set_found<R: Robot>(token: Found, robot: &mut R, to: u16)
 pub fn leave_found<Q: Questions>(token: Found, robot: &Q, from: u16)
     requires { next_free_cell (Q.meaning robot.now) from ≡ None }
 {
-    token.spend();
+    let _ = token.spend();
 }

@@ -1,24 +1,10 @@
 -- What places a robot can be made from.
-use Rattle.std.proofs.Common.{◌≡◌, ℕ, zero, suc, ◌+◌, ◌<◌, ◌≤◌, true, false, ◌&&◌, leb, List, [], ◌∷◌, map, length, get_or, drop, Some, None, Ok, Option, sym, refl, ◌∙◌, arith}
+use Rattle.std.proofs.Common.{◌≡◌, ℕ, zero, suc, ◌≤◌, true, List, [], ◌∷◌, map, length, get_or, Some, None, Ok, Option, refl, arith}
 use Rattle.labels.specs.Numbers.{unreadable_number}
-use Rattle.std.proofs.lemmas.List.{at_drop_more, at_drop_all}
 use Rattle.std.proofs.lemmas.Bool.Decides.{nat_tests}
-use Rattle.std.proofs.lemmas.Bool.{le-leb, lt-leb}
 use Rattle.robots.specs.declared.place.Place.{Place}
 use Rattle.robots.specs.declared.making.Unmade.{Unmade}
 use Rattle.robots.specs.Making.{numbers_fit, making_refusal, or_unmade, place_cartridge}
-
-fit_more : (xs : List Place) (i : ℕ) (d : Place) → i < length xs → numbers_fit (drop i xs) ≡ (leb (get_or xs i d).cartridge unreadable_number && numbers_fit (drop (i + 1) xs))
-fit_more xs i d h = at_drop_more numbers_fit xs i d h
-
-pub fit_here : (xs : List Place) (i : ℕ) (d : Place) → i < length xs → (get_or xs i d).cartridge ≤ unreadable_number → numbers_fit (drop (i + 1) xs) ≡ numbers_fit (drop i xs)
-fit_here xs i d h l = sym (fit_more xs i d h ∙ rw (le-leb (get_or xs i d).cartridge unreadable_number l) refl)
-
-pub fit_not : (xs : List Place) (i : ℕ) (d : Place) → i < length xs → unreadable_number < (get_or xs i d).cartridge → numbers_fit (drop i xs) ≡ false
-fit_not xs i d h l = fit_more xs i d h ∙ rw (lt-leb (get_or xs i d).cartridge unreadable_number l) refl
-
-pub fit_all : (xs : List Place) (i : ℕ) → length xs ≤ i → numbers_fit (drop i xs) ≡ true
-fit_all xs i h = at_drop_all numbers_fit xs i h
 
 -- What is known where nothing stands against making a robot.
 pub numbers_within : (xs : List Place) → numbers_fit xs ≡ true → (p : ℕ) → get_or (map place_cartridge xs) p 0 ≤ unreadable_number

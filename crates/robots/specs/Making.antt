@@ -1,5 +1,6 @@
 -- What a robot of up to 256 places is made from: a list of its places, and what its hand holds.
-use Rattle.std.specs.Prelude.{◌≡◌, ℕ, Bool, true, cond, not, ◌&&◌, ◌||◌, List, [], ◌∷◌, map, length, Some, None, Ok, Err, Option, Result, nat_le, nat_lt}
+use Rattle.std.specs.Prelude.{◌≡◌, ℕ, Bool, true, cond, not, ◌||◌, List, map, length, Some, None, Ok, Err, Option, Result, nat_le, nat_lt}
+use Rattle.std.specs.List.{list_all}
 use Rattle.labels.specs.Numbers.{unreadable_number}
 use Rattle.robots.specs.declared.kind.Kind.{Kind}
 use Rattle.robots.specs.declared.place.Place.{Place}
@@ -31,8 +32,7 @@ place_asked m p = asked m p (record { kind = kind_of m p; cartridge = held_at m 
 
 -- Each place holds a cartridge's number or 0.
 abbrev pub numbers_fit : List Place → Bool
-numbers_fit [] = true
-numbers_fit (x ∷ xs) = nat_le x.cartridge unreadable_number && numbers_fit xs
+numbers_fit xs = list_all (λ x. nat_le x.cartridge unreadable_number) xs
 
 -- Why no robot can be made, in the order in which it is tested.
 abbrev pub making_refusal : List Place → ℕ → Option Unmade

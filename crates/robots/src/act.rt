@@ -7,8 +7,9 @@ use crate::fault::Fault;
 use crate::kind::Kind;
 use crate::robot::{Questions, Robot};
 
-/// Something to ask of a robot.
-#[derive(Clone, Copy)]
+/// Something to ask of a robot. A value, since what holds of all robots is said of every question, and below
+/// of every act.
+#[derive(Clone, Copy, PartialEq, Eq, Debug)]
 pub enum Question {
     Places,
     Hand,
@@ -18,7 +19,7 @@ pub enum Question {
 }
 
 /// What a robot tells.
-#[derive(Clone, Copy)]
+#[derive(Clone, Copy, PartialEq, Eq, Debug)]
 pub enum Reply {
     Count(u16),
     InHand(u32),
@@ -28,7 +29,7 @@ pub enum Reply {
 }
 
 /// Something for a robot to do.
-#[derive(Clone, Copy)]
+#[derive(Clone, Copy, PartialEq, Eq, Debug)]
 pub enum Act {
     Lift(u16),
     Set(u16),
@@ -38,7 +39,7 @@ pub enum Act {
 }
 
 /// What an act answers.
-#[derive(Clone, Copy)]
+#[derive(Clone, Copy, PartialEq, Eq, Debug)]
 pub enum Answer {
     /// A lift or a take: the cartridge's number.
     Number(Result<u32, Fault>),
@@ -59,7 +60,7 @@ pub fn ask<Q: Questions>(robot: &Q, question: Question) -> Reply
     }
 }
 
-/// Makes the call that the act names.
+/// Makes the call that the act names. What `perform` says of the cartridges follows from these clauses.
 fn call<R: Robot>(robot: &mut R, act: Act) -> Answer
     ensures answer { result ≡ act_answer (R.Questions.meaning robot.old) act }
     ensures after { R.Questions.meaning robot.new ≡ acted (R.Questions.meaning robot.old) act }

@@ -19,13 +19,13 @@ impl Fault {
         ensures { result ≡ place_of self }
     {
         match self {
-            Fault::NoPlace(p) => p,
-            Fault::HandFull(p) => p,
-            Fault::HandEmpty(p) => p,
-            Fault::OutOfService(p) => p,
-            Fault::PlaceEmpty(p) => p,
-            Fault::PlaceFull(p) => p,
-            Fault::BadNumber(p) => p,
+            Fault::NoPlace(p)
+            | Fault::HandFull(p)
+            | Fault::HandEmpty(p)
+            | Fault::OutOfService(p)
+            | Fault::PlaceEmpty(p)
+            | Fault::PlaceFull(p)
+            | Fault::BadNumber(p) => p,
         }
     }
 }

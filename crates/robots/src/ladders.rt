@@ -79,8 +79,5 @@ pub fn may_take<Q: Questions>(robot: &Q, p: u16) -> Result<u32, Fault>
 pub fn may_switch<Q: Questions>(robot: &Q, p: u16) -> Result<(), Fault>
     ensures { result ≡ switch_answer (Q.meaning robot.now) p }
 {
-    match robot.kind(p) {
-        Some(_) => Ok(()),
-        None => Err(Fault::NoPlace(p)),
-    }
+    robot.kind(p).map(|_| ()).ok_or(Fault::NoPlace(p))
 }

@@ -8,6 +8,7 @@
 pub mod act;
 pub mod equal;
 pub mod fault;
+pub mod keeper;
 pub mod kind;
 pub mod ladders;
 pub mod making;

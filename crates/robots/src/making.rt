@@ -32,12 +32,9 @@ impl From<AllocError> for Unmade {
 fn numbers_fit(places: &[Place]) -> bool
     ensures { result ≡ numbers_fit places.now }
 {
-    for place in places {
-        if place.cartridge > UNREADABLE_NUMBER {
-            return false;
-        }
-    }
-    true
+    places
+        .iter()
+        .all(|place| place.cartridge <= UNREADABLE_NUMBER)
 }
 
 /// Whether a robot can be made from these places, and this in its hand; want of memory aside.

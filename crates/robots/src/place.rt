@@ -4,10 +4,10 @@ ghost use Rattle.std.specs.Prelude.{◌≡◌};
 use crate::kind::Kind;
 
 /// A place with all that a robot's meaning says of it.
-#[derive(Clone, Copy)]
+#[derive(Clone, Copy, PartialEq, Eq, Debug)]
 pub struct Place {
     pub kind: Kind,
-    /// The number of the cartridge that it holds, or 0.
+    /// The number of the cartridge that it holds, or 0: robots and people give and get numbers, and 0 is none.
     pub cartridge: u32,
     pub in_service: bool,
 }

@@ -8,6 +8,7 @@ use Rattle.responses.specs.Responses.{Told}
 use Rattle.responses.specs.Writing.{left}
 use Rattle.library.specs.Finals.{FinalFor}
 use Rattle.library.specs.Library.{Job, Library}
+use Rattle.library.specs.Marks.{work_meets}
 use Rattle.receipt.specs.Accepting.{Received, received}
 use Rattle.steps.specs.Stepping.{Stepped, stepped}
 use Rattle.server.specs.declared.refusal.CallRefusal.{CallRefusal}
@@ -29,8 +30,7 @@ wrote t xs l = record { answer = Ok (length_in xs t); buffer = left t xs; librar
 
 -- Whether the request at work has the number n.
 abbrev pub work_has : Option Job → ℕ → Bool
-work_has None n = false
-work_has (Some j) n = j.request.number == n
+work_has w n = work_meets (λ q. q.number == n) w
 
 -- Whether a request with the number n is at work or waiting.
 abbrev pub in_use : Library → ℕ → Bool

@@ -24,12 +24,12 @@ pub enum CallRefusal {
     PlaceEmpty,
 }
 
-impl CallRefusal {
-    /// The number that the call returns.
-    pub fn number(self) -> u8
-        ensures { result ≡ refusal_number self }
-    {
-        match self {
+/// The number that a refused call returns.
+impl From<CallRefusal> for u8 {
+    ghost from_gives = { λ why n. n ≡ refusal_number why };
+
+    fn from(why: CallRefusal) -> u8 {
+        match why {
             CallRefusal::ShortBuffer => 1,
             CallRefusal::NumberInUse => 2,
             CallRefusal::NoPlace => 3,

@@ -1,9 +1,10 @@
 -- The statuses: one row for each.
-use Rattle.std.specs.Prelude.{ℕ, Bool, true, false, cond, Some, None, Option, ◌==◌}
+use Rattle.std.specs.Prelude.{ℕ, Bool, true, false, cond, Some, None, Option, Result, ◌==◌, ok_or}
 use Rattle.statuses.specs.declared.Layer.{Layer}
 use Rattle.statuses.specs.declared.Layer.TheVariants as layer
 use Rattle.statuses.specs.declared.Status.{Status}
 use Rattle.statuses.specs.declared.Status.TheVariants as status
+use Rattle.statuses.specs.declared.UnknownStatus.{UnknownStatus}
 
 -- The number of each layer.
 abbrev pub layer_number : Layer → ℕ
@@ -96,3 +97,7 @@ status_of n =
     (or_else n status.NoPortPlace
     (or_else n status.UnreadableLabel
     (or_else n status.LibraryFailure None))))))))))))))))))))))))))
+
+-- The same, with the number where it stands for none.
+abbrev pub status_named : ℕ → Result Status UnknownStatus
+status_named n = ok_or (status_of n) (record { code = n })

@@ -1,4 +1,5 @@
-use crate::Status;
+use crate::{Status, UnknownStatus};
+use std::error::Error;
 use std::fmt;
 
 impl Status {
@@ -40,3 +41,11 @@ impl fmt::Display for Status {
         f.write_str(self.words())
     }
 }
+
+impl fmt::Display for UnknownStatus {
+    fn fmt<W: fmt::Write>(&self, f: &mut fmt::Formatter<W>) -> fmt::Result {
+        write!(f, "no status has the number {}", self.code)
+    }
+}
+
+impl Error for UnknownStatus {}

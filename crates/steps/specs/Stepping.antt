@@ -73,21 +73,6 @@ notice_after (ends v) b m k = closing_notice b m k
 abbrev pub notice_of : Request → Turned → Option Notice
 notice_of q t = notice_after t.course.goes q.body t.stock.robot t.course.notice
 
--- A library with other drive states.
-abbrev pub with_drives : List DriveState → Library → Library
-with_drives ds l = record {
-  stock = l.stock;
-  state = l.state;
-  drives = ds;
-  work = l.work;
-  waiting = l.waiting;
-  slots = l.slots;
-  messages = l.messages;
-  message_slots = l.message_slots;
-  dropped = l.dropped;
-  door = l.door;
-}
-
 -- The library after a turn of the request, with these still waiting.
 abbrev pub library_after : Library → List Request → Request → Turned → Library
 library_after l qs q t = record {

@@ -1,16 +1,23 @@
--- One more place of an inventory.
-use Rattle.std.proofs.Common.{◌≡◌, ℕ, ◌+◌, ◌<◌, List, [], ◌∷◌, ◌++◌, map, length, take, set, sym, ap, ◌∙◌, arith}
-use Rattle.std.specs.List.{range_with_len}
-use Rattle.std.proofs.lemmas.List.FromFn.{map-range_with_len_more}
-use Rattle.std.proofs.lemmas.List.{take_more_set, take_all}
+-- An array that is made by a function of the index.
+use Rattle.std.proofs.Common.{◌≡◌, ℕ, zero, suc, ◌+◌, ◌<◌, ◌≤◌, List, get_or, subst, ◌∙◌, ⊎_elim, arith}
+use Rattle.std.specs.Array.{IsFromFnResult, IsFromFnResultFrom}
+use Rattle.std.specs.Fn.{Called, Mut}
+use Rattle.std.proofs.lemmas.Bool.{cases_eq}
+use Rattle.std.proofs.lemmas.List.FromFn.{fill_by_all}
 use Rattle.robots.specs.Meaning.{Meaning}
 use Rattle.stock.specs.Holding.{shown_at, inventory_of}
 
-pub shown_more : (m : Meaning) (xs : List ℕ) (i x : ℕ) → i < length xs → x ≡ shown_at m i → take i xs ≡ map (shown_at m) (range_with_len 0 i) → take (i + 1) (set xs i x) ≡ map (shown_at m) (range_with_len 0 (i + 1))
-shown_more m xs i x h e inv =
-    take_more_set xs i x h ∙ ap (λ (ys : List ℕ). ys ++ x ∷ []) inv
-    ∙ ap (λ (y : ℕ). map (shown_at m) (range_with_len 0 i) ++ y ∷ []) e ∙ sym (map-range_with_len_more (shown_at m) 0 i i (omega arith))
+-- Each of n elements from i on is what h gives, where each call of f does, and leaves f as it was.
+each_at : {F : Type 0} (g : Mut F (ℕ × Unit {0}) ℕ) (h : ℕ → ℕ) (f : F) → ((i y : ℕ) (q : F) → Called g f (i, tt) y q → (q ≡ f) × (y ≡ h i)) → (ys : List ℕ) (n i k : ℕ) → IsFromFnResultFrom g f ys i n → i ≤ k → k < i + n → get_or ys k 0 ≡ h k
+each_at g h f says ys zero i k w a b = absurd (omega arith)
+each_at {F} g h f says ys (suc n) i k (q, y, e, c, rest) a b =
+    let s = says i y q c in
+    let P : F → Type 0 = λ p. IsFromFnResultFrom g p ys (i + 1) n in
+    ⊎_elim
+    (λ (z : k ≡ i). rw z (e.1 0 ∙ s.1))
+    (λ (z : k ≡ i → ⊥). each_at g h f says ys n (i + 1) k (subst P s.0 rest) (omega arith) (omega arith))
+    (cases_eq k i)
 
-pub shown_all : (m : Meaning) (xs : List ℕ) (i : ℕ) → length xs ≡ 256 → i ≡ 256 → take i xs ≡ map (shown_at m) (range_with_len 0 i) → xs ≡ inventory_of m
+pub all_shown : {F : Type 0} (g : Mut F (ℕ × Unit {0}) ℕ) (m : Meaning) (f : F) → ((i y : ℕ) (q : F) → Called g f (i, tt) y q → (q ≡ f) × (y ≡ shown_at m i)) → (ys : List ℕ) → IsFromFnResult g f ys 256 → ys ≡ inventory_of m
 unfolding inventory_of
-shown_all m xs i l e inv = sym (take_all i xs (omega arith)) ∙ inv ∙ ap (λ (n : ℕ). map (shown_at m) (range_with_len 0 n)) e
+all_shown g m f says ys w = fill_by_all (shown_at m) ys 256 0 w.long (λ k l. each_at g (shown_at m) f says ys 256 0 k w.each (omega arith) (omega arith))

@@ -1,5 +1,6 @@
 -- A list of cartridges with the places where they are filed.
 use Rattle.std.specs.Prelude.{ℕ, ◌+◌, cond, List, [], ◌∷◌, ◌++◌, length, take, drop, Some, None, Option, ◌==◌, nat_lt, slice_index_or, slice_set}
+use Rattle.std.specs.List.{position_from}
 use Rattle.stock.specs.declared.catalogue.Filed.{Filed}
 use Rattle.stock.specs.declared.catalogue.Row.{Row}
 use Rattle.stock.specs.declared.catalogue.Volume.{Volume}
@@ -25,8 +26,7 @@ volume_of xs k = volume_from 0 xs k None
 
 -- Which row names the place p, the first row being i.
 abbrev pub index_from : ℕ → List Filed → ℕ → Option ℕ
-index_from i [] p = None
-index_from i (row ∷ rows) p = cond (row.place == p) (Some i) (index_from (i + 1) rows p)
+index_from i xs p = position_from (λ row. row.place == p) i xs
 
 abbrev pub index_of : List Filed → ℕ → Option ℕ
 index_of xs p = index_from 0 xs p

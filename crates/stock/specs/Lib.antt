@@ -1,6 +1,5 @@
 pub mod Refusals
 pub mod Filing
-pub mod Catalogues
 pub mod Holding
 pub mod Models
 pub mod Moves

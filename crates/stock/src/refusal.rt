@@ -6,7 +6,7 @@ use robots::fault::Fault;
 use statuses::Status;
 
 /// Why a step ended a request without success; a robot's fault is kept whole.
-#[derive(Clone, Copy)]
+#[derive(Clone, Copy, PartialEq, Eq, Debug)]
 pub enum Refusal {
     /// No place, or too many places or port places, for a start.
     BadMakeUp,
@@ -47,12 +47,12 @@ pub fn in_byte(p: u16) -> u8
     (p % 256) as u8
 }
 
-impl Refusal {
-    /// The status that tells it.
-    pub fn status(self) -> Status
-        ensures { result ≡ status_of self }
-    {
-        match self {
+/// The status that tells a refusal.
+impl From<Refusal> for Status {
+    ghost from_gives = { λ why status. status ≡ status_of why };
+
+    fn from(why: Refusal) -> Status {
+        match why {
             Refusal::BadMakeUp => Status::BadMakeUp,
             Refusal::NoFreeCell => Status::NoFreeCell,
             Refusal::NoVolume => Status::NoVolume,
@@ -66,16 +66,18 @@ impl Refusal {
             Refusal::LibraryFailure(_) => Status::LibraryFailure,
         }
     }
+}
 
+impl Refusal {
     /// The place that it is about, where it has one.
     pub fn detail(self) -> Option<u8>
         ensures { result ≡ detail_of self }
     {
         match self {
-            Refusal::InDrive(p) => Some(in_byte(p)),
-            Refusal::DriveInUse(p) => Some(in_byte(p)),
-            Refusal::DriveEmpty(p) => Some(in_byte(p)),
-            Refusal::OtherVolume(p) => Some(in_byte(p)),
+            Refusal::InDrive(p)
+            | Refusal::DriveInUse(p)
+            | Refusal::DriveEmpty(p)
+            | Refusal::OtherVolume(p) => Some(in_byte(p)),
             Refusal::LibraryFailure(fault) => Some(in_byte(fault.place())),
             _ => None,
         }

@@ -1,8 +1,8 @@
 -- A list of cartridges, each with its place: what is found in it, and what an edit leaves.
-use Rattle.std.specs.Prelude.{◌≡◌, ℕ, zero, suc, ◌+◌, ◌<◌, ◌≤◌, true, false, cond, List, [], ◌∷◌, ◌++◌, map, length, get_or, drop, set, replicate, ◌==◌, ◌≢◌, nat_eq, slice_index, slice_index_or, slice_set, refl}
-use Rattle.std.proofs.Common.{sym, ap, ◌∙◌, ⊎_elim, arith, add-one, drop-cons}
+use Rattle.std.specs.Prelude.{◌≡◌, ℕ, zero, suc, ◌+◌, ◌<◌, ◌≤◌, true, false, cond, List, [], ◌∷◌, ◌++◌, map, length, get_or, set, replicate, find, option_map, unwrap_or, ◌==◌, ◌≢◌, nat_eq, slice_index, slice_set, refl}
+use Rattle.std.proofs.Common.{sym, ap, ◌∙◌, ⊎_elim, arith}
 use Rattle.labels.specs.Numbers.{unreadable_number}
-use Rattle.std.specs.List.{range_with_len, remove}
+use Rattle.std.specs.List.{range_with_len}
 use Rattle.std.proofs.lemmas.List.{same_lists, length-set, get_or-set_same, get_or-set_other, get_or_past}
 use Rattle.std.proofs.lemmas.List.FromFn.{length-map-range_with_len, get_or-map-range_with_len}
 use Rattle.std.proofs.lemmas.Bool.{cases_Bool, cases_eq, cases_lt, eq-eqb, ne_eqb}
@@ -10,7 +10,7 @@ use Rattle.std.proofs.lemmas.Bool.Decides.{nat_tests}
 use Rattle.robots.specs.Cartridges.{tally}
 use Rattle.robots.proofs.Acts.{tally_set}
 use Rattle.tag_frame.specs.declared.tag.Tag.{Tag}
-use Rattle.tag_frame.specs.Tags.{lookup, index_of, absent, tidy, held_of}
+use Rattle.tag_frame.specs.Tags.{lookup, absent, tidy, held_of, all_but, retagged}
 
 -- What the test tells of the first cartridge and of the rest.
 tidy_tells : (n : ℕ) (t : Tag) (ts : List Tag) → tidy n (t ∷ ts) ≡ true → (t.place < n) × (0 < t.number) × (t.number ≤ unreadable_number) × (absent t.place ts ≡ true) × (tidy n ts ≡ true)
@@ -30,15 +30,6 @@ lookup_absent p [] e = refl
 lookup_absent p (t ∷ ts) e =
     let a = absent_tells p t ts e in
     rw (ne_eqb t.place p a.0) (lookup_absent p ts a.1)
-
-absent_lookup : (n p : ℕ) (ts : List Tag) → tidy n ts ≡ true → lookup ts p ≡ 0 → absent p ts ≡ true
-absent_lookup n p [] o e = refl
-absent_lookup n p (t ∷ ts) o e =
-    let a = tidy_tells n t ts o in
-    ⊎_elim
-    (λ (h : t.place ≡ p). absurd (grind (arith, nat_tests)))
-    (λ (h : t.place ≡ p → ⊥). absent_makes p t ts h (absent_lookup n p ts a.4 (rw (ne_eqb t.place p h) at e)))
-    (cases_eq t.place p)
 
 lookup_number : (n p : ℕ) (ts : List Tag) → tidy n ts ≡ true → lookup ts p ≤ unreadable_number
 lookup_number n p [] o = omega arith
@@ -110,110 +101,71 @@ tidy_push n (s ∷ ss) t o a b d e =
     let z = absent_tells t.place s ss e in
     tidy_makes n s (ss ++ t ∷ []) w.0 w.1 w.2 (absent_push s.place ss t w.3 (λ h. z.0 (sym h))) (tidy_push n ss t w.4 a b d z.1)
 
-unheld : (n : ℕ) (ts : List Tag) (p : ℕ) → tidy n ts ≡ true → slice_index (held_of n ts) p ≡ 0 → absent p ts ≡ true
-unheld n ts p o e = absent_lookup n p ts o (sym (held_found n ts p o) ∙ e)
+-- What was at p is there no more.
+none_at : (p : ℕ) (ts : List Tag) → absent p (all_but p ts) ≡ true
+none_at p [] = refl
+none_at p (t ∷ ts) = let ih = none_at p ts in grind (arith, nat_tests, cases_eq t.place p)
 
-pub more_held : (n : ℕ) (ts : List Tag) (t : Tag) → tidy n ts ≡ true → slice_index (held_of n ts) t.place ≡ 0 → held_of n (ts ++ t ∷ []) ≡ slice_set (held_of n ts) t.place t.number
-more_held n ts t o e = held_set (lookup ts) (lookup (ts ++ t ∷ [])) n t.place t.number (λ q. lookup_push ts t q (unheld n ts t.place o e))
-
-pub more_tidy : (n : ℕ) (ts : List Tag) (t : Tag) → tidy n ts ≡ true → t.place < n → slice_index (held_of n ts) t.place ≡ 0 → 0 < t.number → t.number ≤ unreadable_number → tidy n (ts ++ t ∷ []) ≡ true
-more_tidy n ts t o l e a b = tidy_push n ts t o l a b (unheld n ts t.place o e)
-
--- One out.
-abbrev without : List Tag → ℕ → List Tag
-without [] p = []
-without (t ∷ ts) p = cond (t.place == p) ts (t ∷ without ts p)
-
-absent_without : (r : ℕ) (ts : List Tag) (p : ℕ) → absent r ts ≡ true → absent r (without ts p) ≡ true
-absent_without r [] p a = refl
-absent_without r (t ∷ ts) p a =
+absent_still : (r p : ℕ) (ts : List Tag) → absent r ts ≡ true → absent r (all_but p ts) ≡ true
+absent_still r p [] a = refl
+absent_still r p (t ∷ ts) a =
     let b = absent_tells r t ts a in
-    let ih = absent_without r ts p b.1 in
-    ⊎_elim
-    (λ (h : nat_eq t.place p ≡ true). rw h b.1)
-    (λ (h : nat_eq t.place p ≡ false). rw h (absent_makes r t (without ts p) b.0 ih))
-    (cases_Bool (t.place == p))
+    let ih = absent_still r p ts b.1 in
+    grind (arith, nat_tests, cases_eq t.place p)
 
-tidy_without : (n : ℕ) (ts : List Tag) (p : ℕ) → tidy n ts ≡ true → tidy n (without ts p) ≡ true
-tidy_without n [] p o = refl
-tidy_without n (t ∷ ts) p o =
+fewer_tidy : (n p : ℕ) (ts : List Tag) → tidy n ts ≡ true → tidy n (all_but p ts) ≡ true
+fewer_tidy n p [] o = refl
+fewer_tidy n p (t ∷ ts) o =
     let w = tidy_tells n t ts o in
-    let ih = tidy_without n ts p w.4 in
+    let ih = fewer_tidy n p ts w.4 in
     ⊎_elim
-    (λ (h : nat_eq t.place p ≡ true). rw h w.4)
-    (λ (h : nat_eq t.place p ≡ false). rw h (tidy_makes n t (without ts p) w.0 w.1 w.2 (absent_without t.place ts p w.3) ih))
-    (cases_Bool (t.place == p))
-
-lookup_without : (n : ℕ) (ts : List Tag) (p q : ℕ) → tidy n ts ≡ true → lookup (without ts p) q ≡ cond (p == q) 0 (lookup ts q)
-lookup_without n [] p q o = ⊎_elim (λ (h : nat_eq p q ≡ true). rw h refl) (λ (h : nat_eq p q ≡ false). rw h refl) (cases_Bool (p == q))
-lookup_without n (t ∷ ts) p q o =
-    let w = tidy_tells n t ts o in
-    let ih = lookup_without n ts p q w.4 in
-    let z = lookup_absent t.place ts w.3 in
-    ⊎_elim
-    (λ (h : t.place ≡ p). rw (eq-eqb t.place p h) (grind (arith, nat_tests, cases_eq t.place q)))
-    (λ (h : t.place ≡ p → ⊥). rw (ne_eqb t.place p h) (grind (arith, nat_tests)))
+    (λ (h : t.place ≡ p). rw (eq-eqb t.place p h) ih)
+    (λ (h : t.place ≡ p → ⊥). rw (ne_eqb t.place p h) (tidy_makes n t (all_but p ts) w.0 w.1 w.2 (absent_still t.place p ts w.3) ih))
     (cases_eq t.place p)
 
-removed_without : (ts : List Tag) (p : ℕ) → remove ts (index_of ts p) ≡ without ts p
-removed_without [] p = refl
-removed_without (t ∷ ts) p =
+lookup_fewer : (p q : ℕ) (ts : List Tag) → lookup (all_but p ts) q ≡ cond (p == q) 0 (lookup ts q)
+lookup_fewer p q [] = grind (arith, nat_tests, cases_eq p q)
+lookup_fewer p q (t ∷ ts) =
+    let ih = lookup_fewer p q ts in
+    grind (arith, nat_tests, cases_eq t.place p, cases_eq p q)
+
+-- Another cartridge in place of what is at p, or none.
+lookup_other : (p v q : ℕ) (ts : List Tag) → lookup (all_but p ts ++ (record { number = v; place = p }) ∷ []) q ≡ cond (p == q) v (lookup ts q)
+lookup_other p v q ts =
+    let a = lookup_push (all_but p ts) (record { number = v; place = p }) q (none_at p ts) in
+    let b = lookup_fewer p q ts in
+    grind (arith, nat_tests, cases_eq p q)
+
+lookup_retagged : (p v q : ℕ) (ts : List Tag) → lookup (retagged ts p v) q ≡ cond (p == q) v (lookup ts q)
+lookup_retagged p v q ts =
+    ⊎_elim
+    (λ (h : v ≡ 0). rw h (lookup_fewer p q ts))
+    (λ (h : v ≡ 0 → ⊥). rw (ne_eqb v 0 h) (lookup_other p v q ts))
+    (cases_eq v 0)
+
+pub retagged_held : (n p v : ℕ) (ts : List Tag) → held_of n (retagged ts p v) ≡ slice_set (held_of n ts) p v
+retagged_held n p v ts = held_set (lookup ts) (lookup (retagged ts p v)) n p v (λ q. lookup_retagged p v q ts)
+
+pub retagged_tidy : (n p v : ℕ) (ts : List Tag) → tidy n ts ≡ true → p < n → v ≤ unreadable_number → tidy n (retagged ts p v) ≡ true
+retagged_tidy n p v ts o l b =
+    let d = fewer_tidy n p ts o in
+    ⊎_elim
+    (λ (h : v ≡ 0). rw h d)
+    (λ (h : v ≡ 0 → ⊥). rw (ne_eqb v 0 h) (tidy_push n (all_but p ts) (record { number = v; place = p }) d l (omega arith) b (none_at p ts)))
+    (cases_eq v 0)
+
+-- What a search finds.
+found_number : (ts : List Tag) (p : ℕ) → unwrap_or (option_map (λ t. t.number) (find (λ t. t.place == p) ts)) 0 ≡ lookup ts p
+found_number [] p = refl
+found_number (t ∷ ts) p =
+    let ih = found_number ts p in
     ⊎_elim
     (λ (h : nat_eq t.place p ≡ true). rw h refl)
-    (λ (h : nat_eq t.place p ≡ false). rw h (ap (λ (z : List Tag). t ∷ z) (removed_without ts p)))
+    (λ (h : nat_eq t.place p ≡ false). rw h ih)
     (cases_Bool (t.place == p))
 
--- Here i is where p stands, and us is what is left.
-left_without : (ts us : List Tag) (p i : ℕ) → i ≡ index_of ts p → us ≡ remove ts i → us ≡ without ts p
-left_without ts us p i e f = f ∙ ap (remove ts) e ∙ removed_without ts p
-
-pub fewer_held : (n : ℕ) (ts us : List Tag) (p i : ℕ) → tidy n ts ≡ true → i ≡ index_of ts p → us ≡ remove ts i → held_of n us ≡ slice_set (held_of n ts) p 0
-fewer_held n ts us p i o e f =
-    ap (held_of n) (left_without ts us p i e f) ∙ held_set (lookup ts) (lookup (without ts p)) n p 0 (λ q. lookup_without n ts p q o)
-
-pub fewer_tidy : (n : ℕ) (ts us : List Tag) (p i : ℕ) → tidy n ts ≡ true → i ≡ index_of ts p → us ≡ remove ts i → tidy n us ≡ true
-fewer_tidy n ts us p i o e f = ap (tidy n) (left_without ts us p i e f) ∙ tidy_without n ts p o
-
--- Where a place is found.
-index_within : (ts : List Tag) (p : ℕ) → (lookup ts p ≢ 0) → index_of ts p < length ts
-index_within [] p h = absurd (h refl)
-index_within (t ∷ ts) p h =
-    ⊎_elim
-    (λ (e : nat_eq t.place p ≡ true). rw e (omega arith))
-    (λ (e : nat_eq t.place p ≡ false). let ih = index_within ts p (rw e at h) in rw e (omega arith))
-    (cases_Bool (t.place == p))
-
-pub held_within : (n : ℕ) (ts : List Tag) (p : ℕ) → tidy n ts ≡ true → (slice_index (held_of n ts) p ≢ 0) → index_of ts p < length ts
-held_within n ts p o h = index_within ts p (λ e. h (held_found n ts p o ∙ e))
-
-at_index : (ts : List Tag) (p : ℕ) (d : Tag) → index_of ts p < length ts → (get_or ts (index_of ts p) d).number ≡ lookup ts p
-at_index [] p d h = absurd (omega arith)
-at_index (t ∷ ts) p d h =
-    ⊎_elim
-    (λ (e : nat_eq t.place p ≡ true). rw e refl)
-    (λ (e : nat_eq t.place p ≡ false). rw e (at_index ts p d (let l = rw e at h in omega arith)))
-    (cases_Bool (t.place == p))
-
-past_index : (ts : List Tag) (p : ℕ) → length ts ≤ index_of ts p → lookup ts p ≡ 0
-past_index [] p h = refl
-past_index (t ∷ ts) p h =
-    ⊎_elim
-    (λ (e : nat_eq t.place p ≡ true). let l = rw e at h in absurd (omega arith))
-    (λ (e : nat_eq t.place p ≡ false). rw e (past_index ts p (let l = rw e at h in omega arith)))
-    (cases_Bool (t.place == p))
-
--- Here i is where p stands.
-pub found_held : (n : ℕ) (ts : List Tag) (p i : ℕ) (t : Tag) → tidy n ts ≡ true → i ≡ index_of ts p → i < length ts → t ≡ slice_index_or ts i t → t.number ≡ slice_index (held_of n ts) p
-found_held n ts p i t o e h q =
-    ap (λ (z : Tag). z.number) (q ∙ ap (λ (k : ℕ). get_or ts k t) e) ∙ at_index ts p t (omega arith) ∙ sym (held_found n ts p o)
-
-pub none_found : (n : ℕ) (ts : List Tag) (p i : ℕ) → tidy n ts ≡ true → i ≡ index_of ts p → length ts ≤ i → 0 ≡ slice_index (held_of n ts) p
-none_found n ts p i o e h = sym (held_found n ts p o ∙ past_index ts p (omega arith))
-
--- A step of a search through the list.
-pub index_step : (ts : List Tag) (i p : ℕ) (t : Tag) → i < length ts → t ≡ slice_index_or ts i t → index_of (drop i ts) p ≡ cond (t.place == p) 0 (suc (index_of (drop (i + 1) ts) p))
-index_step ts i p t h e =
-    ap (λ (z : List Tag). index_of z p) (drop-cons ts i t h) ∙ rw (← e, add-one) refl
+pub found_held : (n : ℕ) (ts : List Tag) (p : ℕ) → tidy n ts ≡ true → unwrap_or (option_map (λ t. t.number) (find (λ t. t.place == p) ts)) 0 ≡ slice_index (held_of n ts) p
+found_held n ts p o = found_number ts p ∙ sym (held_found n ts p o)
 
 -- No cartridges at all.
 none_counted : (a n : ℕ) → map (lookup []) (range_with_len a n) ≡ replicate {A = ℕ} n 0
@@ -246,9 +198,11 @@ some_empty [] p h e = absurd (omega arith)
 some_empty (x ∷ xs) zero h e = rw e (omega arith)
 some_empty (x ∷ xs) (suc p) h e = let ih = some_empty xs p (omega arith) e in omega arith
 
--- Where a place is empty the list is shorter than the places are many.
-pub room_left : (n : ℕ) (ts : List Tag) (p : ℕ) → tidy n ts ≡ true → p < n → slice_index (held_of n ts) p ≡ 0 → length ts < n
-room_left n ts p o h e =
-    let a = full_or_empty n ts o in
-    let b = some_empty (held_of n ts) p (omega (arith, held_length n ts)) e in
+-- Where a place has no cartridge the list is shorter than the places are many.
+pub room_left : (n p : ℕ) (ts : List Tag) → tidy n ts ≡ true → p < n → length (all_but p ts) < n
+room_left n p ts o h =
+    let d = fewer_tidy n p ts o in
+    let a = full_or_empty n (all_but p ts) d in
+    let e : slice_index (held_of n (all_but p ts)) p ≡ 0 = held_found n (all_but p ts) p d ∙ lookup_absent p (all_but p ts) (none_at p ts) in
+    let b = some_empty (held_of n (all_but p ts)) p (omega (arith, held_length n (all_but p ts))) e in
     omega arith

@@ -8,22 +8,26 @@ use robots::place::Place;
 use std::alloc::{AllocError, Global};
 
 /// A place without what it holds.
-#[derive(Clone, Copy)]
+#[derive(Clone, Copy, PartialEq, Eq, Debug)]
 pub struct Site {
     pub kind: Kind,
     pub in_service: bool,
+}
+
+impl From<&Place> for Site {
+    ghost from_gives = { λ place site. site ≡ site_of place.now };
+
+    fn from(place: &Place) -> Site {
+        Site {
+            kind: place.kind,
+            in_service: place.in_service,
+        }
+    }
 }
 
 /// The sites of these places.
 pub(crate) fn sites_of(heap: Global, places: &[Place]) -> Result<Vec<Site>, AllocError>
     ensures { IfOk result (λ sites. sites.items ≡ map site_of places.now) }
 {
-    let mut sites = Vec::with_capacity(heap, places.len())?;
-    for place in places {
-        sites.push_reserved(Site {
-            kind: place.kind,
-            in_service: place.in_service,
-        });
-    }
-    Ok(sites)
+    places.iter().map(|place| Site::from(place)).collect(heap)
 }

@@ -6,6 +6,7 @@ use crate::tag::Tag;
 pub mod edits;
 
 /// The cartridges of a frame of `count` places, each with its place, and room for one at every place.
+// No map: an act would ask for memory, which none may want.
 #[derive(Drop)]
 pub struct Table {
     tags: Vec<Tag>,

@@ -1,12 +1,14 @@
 //! Each status that the worked sessions do not meet, and the refusal of hands while an enter is at work:
 //! one script, over both robots.
 
-use crate::script::{Call, V0, over_bay, over_tag_frame};
+use crate::script::{Call, V0, over};
+use bay::bay::Bay;
 use labels::UNREADABLE_NUMBER;
 use robots::kind::Kind;
 use robots::place::Place;
 use server::refusal::CallRefusal;
 use std::test::*;
+use tag_frame::frame::TagFrame;
 
 /// Two port places, the second out of service; an empty drive, and one with a cartridge that
 /// cannot be read; cells with `V00001`, twice `V00002`, and, out of service, `V00003`.
@@ -170,10 +172,10 @@ const SCRIPT: [Call; 74] = [
 
 #[test]
 fn refusals_over_a_bay(rt: HostRuntime) -> Result<(), Fail> {
-    over_bay(rt, &PLACES, 0, &SCRIPT)
+    over(rt, Bay::new(rt.alloc(), &PLACES, 0)?, &SCRIPT)
 }
 
 #[test]
 fn refusals_over_a_tag_frame(rt: HostRuntime) -> Result<(), Fail> {
-    over_tag_frame(rt, &PLACES, 0, &SCRIPT)
+    over(rt, TagFrame::new(rt.alloc(), &PLACES, 0)?, &SCRIPT)
 }

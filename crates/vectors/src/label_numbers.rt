@@ -1,18 +1,15 @@
-use labels::{Label, UNREADABLE_NUMBER, number_of_six, six_for};
+use labels::{Label, UNREADABLE_NUMBER, WrongCharacter, number_of_six, six_for};
 use std::test::*;
 
-fn number(chars: [u8; 6]) -> u32 {
-    match Label::new(chars) {
-        Ok(label) => label.number(),
-        Err(_) => 0,
-    }
+fn number(chars: [u8; 6]) -> Result<u32, WrongCharacter> {
+    Ok(Label::new(chars)?.number())
 }
 
 #[test]
 fn worked_numbers(rt: HostRuntime) -> Result<(), Fail> {
-    assert!(rt; number(*b"000000") == 1);
-    assert!(rt; number(*b"000010") == 37);
-    assert!(rt; number(*b"ZZZZZZ") == 2_176_782_336);
+    assert!(rt; number(*b"000000") == Ok(1));
+    assert!(rt; number(*b"000010") == Ok(37));
+    assert!(rt; number(*b"ZZZZZZ") == Ok(2_176_782_336));
     Ok(())
 }
 

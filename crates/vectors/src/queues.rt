@@ -1,40 +1,10 @@
 //! The queue at every turn: rings of 0, 1, 2, 3 and 5 slots, the oldest record at every place.
 
-ghost use Rattle.ring.specs.Queue.{Sound};
-ghost use Rattle.std.specs.Prelude.{◌+◌, ◌==◌};
-
-use ring::{Change, Condition, Ring};
+use ring::Ring;
 use std::test::*;
 
-/// The record is this one.
-#[derive(Drop)]
-struct Is(u8);
-
-impl Condition<u8> for Is {
-    ghost met = { λ x y. (y == x.0) };
-
-    fn is_met(&self, x: u8) -> bool {
-        x == self.0
-    }
-}
-
-/// The record becomes this one.
-#[derive(Drop)]
-struct Becomes(u8);
-
-impl Change<u8> for Becomes {
-    ghost turns = { λ x y. x.0 };
-
-    fn change(&self, _: u8) -> u8 {
-        self.0
-    }
-}
-
 /// Moves the place of the oldest on by so many.
-fn advance(ring: &mut Ring<u8>, times: usize)
-    requires { Sound ring.old }
-    ensures { Sound ring.new }
-{
+fn advance(ring: &mut Ring<u8>, times: usize) {
     for _ in 0..times {
         let _ = ring.push(200);
         let _ = ring.pop();
@@ -42,24 +12,12 @@ fn advance(ring: &mut Ring<u8>, times: usize)
 }
 
 /// Adds 0, 1, 2 and so on until the ring is full, and tells how many went in.
-fn fill(ring: &mut Ring<u8>) -> usize
-    requires { Sound ring.old }
-    ensures { Sound ring.new }
-{
-    let mut accepted: usize = 0;
-    for record in 0..9u8 {
-        if ring.push(record).is_ok() {
-            accepted = accepted.saturating_add(1);
-        }
-    }
-    accepted
+fn fill(ring: &mut Ring<u8>) -> usize {
+    (0..9u8).filter(|record| ring.push(*record).is_ok()).count()
 }
 
 /// Whether the records are 0, 1, 2 and so on, by number and as they leave.
-fn leaves_in_order(ring: &mut Ring<u8>, count: u8) -> bool
-    requires { Sound ring.old }
-    ensures { Sound ring.new }
-{
+fn leaves_in_order(ring: &mut Ring<u8>, count: u8) -> bool {
     for record in 0..count {
         match (ring.get(0), ring.pop()) {
             (Some(first), Some(taken)) => {
@@ -76,13 +34,13 @@ fn leaves_in_order(ring: &mut Ring<u8>, count: u8) -> bool
 /// One ring of `size` slots out of 8, its oldest record at `head`.
 fn turns(size: u8, head: usize) -> bool {
     let mut slots = [99; 8];
-    let mut ring = Ring::new(&mut slots, size as usize);
+    let mut ring = Ring::new(&mut slots, usize::from(size));
     advance(&mut ring, head);
     let accepted = fill(&mut ring);
-    if accepted != size as usize || !ring.is_full() || ring.len() != accepted {
+    if accepted != usize::from(size) || !ring.is_full() || ring.len() != accepted {
         return false;
     }
-    if ring.any(&Is(size)) || (size > 0 && !ring.any(&Is(size - 1))) {
+    if ring.any(|record| record == size) || (size > 0 && !ring.any(|record| record == size - 1)) {
         return false;
     }
     leaves_in_order(&mut ring, size)
@@ -91,20 +49,20 @@ fn turns(size: u8, head: usize) -> bool {
 /// Changes at every turn: each record, and one of them.
 fn changes(size: u8, head: usize) -> bool {
     let mut slots = [99; 8];
-    let mut ring = Ring::new(&mut slots, size as usize);
+    let mut ring = Ring::new(&mut slots, usize::from(size));
     advance(&mut ring, head);
     let _ = fill(&mut ring);
-    ring.each(&Becomes(7));
-    if ring.any(&Is(0)) {
+    ring.each(|_| 7);
+    if ring.any(|record| record == 0) {
         return false;
     }
-    if ring.replace(size as usize, 8).is_ok() {
+    if ring.replace(usize::from(size), 8).is_ok() {
         return false;
     }
     if size == 0 {
         return true;
     }
-    let last = (size - 1) as usize;
+    let last = usize::from(size - 1);
     ring.replace(last, 8).is_ok()
         && ring.get(last) == Some(8)
         && (last == 0 || ring.get(0) == Some(7))

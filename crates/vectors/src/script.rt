@@ -1,19 +1,16 @@
 //! Calls in turn, each with what it must give.
 
-use bay::bay::Bay;
 use library::slots::{BLANK_MESSAGE, BLANK_REQUEST};
-use robots::place::Place;
 use robots::robot::Robot;
 use server::refusal::CallRefusal;
 use server::serving::Serving;
 use std::test::*;
-use tag_frame::frame::TagFrame;
 
 /// The number of `V00000`: 31 * 60,466,176 + 1. Those of `V00001`, `V00002` and so on follow it.
 pub const V0: u32 = 1_874_451_457;
 
 /// A call, and what it must give.
-#[derive(Clone, Copy)]
+#[derive(Clone, Copy, PartialEq, Eq, Debug)]
 pub enum Call {
     /// The packet is answered by these bytes.
     Receive(&'static [u8], &'static [u8]),
@@ -58,7 +55,8 @@ pub fn stepped<R: Robot>(library: &mut Serving<R>, expected: &[u8]) -> Result<()
     ensure(length <= 2048 && &buffer[0..length] == expected)
 }
 
-fn quiet<R: Robot>(library: &mut Serving<R>, steps: u16) -> Result<(), Fail> {
+/// So many steps write nothing.
+pub fn quiet<R: Robot>(library: &mut Serving<R>, steps: u16) -> Result<(), Fail> {
     for _ in 0..steps {
         stepped(library, &[])?;
     }
@@ -88,25 +86,10 @@ fn follow<R: Robot>(library: &mut Serving<R>, script: &[Call]) -> Result<(), Fai
     Ok(())
 }
 
-/// Follows the script with a server over a bay, with two slots in each queue.
-pub fn over_bay(rt: HostRuntime, places: &[Place], hand: u32, script: &[Call]) -> Result<(), Fail> {
-    let bay = Bay::new(rt.alloc(), places, hand)?;
+/// Follows the script with a server over the robot, with two slots in each queue.
+pub fn over<R: Robot + Drop>(rt: HostRuntime, robot: R, script: &[Call]) -> Result<(), Fail> {
     let mut requests = [BLANK_REQUEST; 2];
     let mut messages = [BLANK_MESSAGE; 2];
-    let mut library = Serving::new(rt.alloc(), bay, &mut requests, &mut messages)?;
-    follow(&mut library, script)
-}
-
-/// The same over a tag frame.
-pub fn over_tag_frame(
-    rt: HostRuntime,
-    places: &[Place],
-    hand: u32,
-    script: &[Call],
-) -> Result<(), Fail> {
-    let frame = TagFrame::new(rt.alloc(), places, hand)?;
-    let mut requests = [BLANK_REQUEST; 2];
-    let mut messages = [BLANK_MESSAGE; 2];
-    let mut library = Serving::new(rt.alloc(), frame, &mut requests, &mut messages)?;
+    let mut library = Serving::new(rt.alloc(), robot, &mut requests, &mut messages)?;
     follow(&mut library, script)
 }

@@ -1,6 +1,6 @@
 //! Two worked sessions, call by call: the bench session, and one with every other command.
 
-use crate::script::{ensure, received, stepped};
+use crate::script::{ensure, quiet, received, stepped};
 use bay::bay::Bay;
 use labels::Label;
 use library::slots::{BLANK_MESSAGE, BLANK_REQUEST};
@@ -34,20 +34,14 @@ fn start_enter_and_mount(library: &mut Serving<Bay>) -> Result<(), Fail> {
         &[0x03, 0x00, 0x01, 0x09],
         &[0x0F, 0x00, 0x01, 0x09, 0x01, 0x00],
     )?;
-    stepped(library, &[])?;
-    stepped(library, &[])?;
-    stepped(library, &[])?;
-    stepped(library, &[])?;
-    stepped(library, &[])?;
-    stepped(library, &[])?;
+    quiet(library, 6)?;
     step_with_inventory(library)?;
     received(
         library,
         &[0x03, 0x00, 0x02, 0x05],
         &[0x0F, 0x00, 0x02, 0x05, 0x01, 0x00],
     )?;
-    stepped(library, &[])?;
-    stepped(library, &[])?;
+    quiet(library, 2)?;
     stepped(
         library,
         &[

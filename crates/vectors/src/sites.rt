@@ -1,11 +1,13 @@
 //! Sites at a bound: the make-up, the hand, 256 places, 21 entries; and an enter cancelled half way.
 
-use crate::script::{Call, V0, over_bay, over_tag_frame};
+use crate::script::{Call, V0, over};
+use bay::bay::Bay;
 use labels::UNREADABLE_NUMBER;
 use robots::kind::Kind;
 use robots::place::Place;
 use server::refusal::CallRefusal;
 use std::test::*;
+use tag_frame::frame::TagFrame;
 
 const PORT: Place = Place {
     kind: Kind::Port,
@@ -47,9 +49,9 @@ const PORTS_ALONE: [Call; 4] = [
 
 #[test]
 fn make_ups(rt: HostRuntime) -> Result<(), Fail> {
-    over_tag_frame(rt, &[], 0, &UNFIT)?;
-    over_tag_frame(rt, &[PORT; 22], 0, &UNFIT)?;
-    over_tag_frame(rt, &[PORT; 21], 0, &PORTS_ALONE)
+    over(rt, TagFrame::new(rt.alloc(), &[], 0)?, &UNFIT)?;
+    over(rt, TagFrame::new(rt.alloc(), &[PORT; 22], 0)?, &UNFIT)?;
+    over(rt, TagFrame::new(rt.alloc(), &[PORT; 21], 0)?, &PORTS_ALONE)
 }
 
 /// A drive and a cell out of service.
@@ -78,7 +80,7 @@ const HAND: [Call; 7] = [
 
 #[test]
 fn hand_without_a_cell(rt: HostRuntime) -> Result<(), Fail> {
-    over_bay(rt, &SHUT_CELL, V0 + 1, &HAND)
+    over(rt, Bay::new(rt.alloc(), &SHUT_CELL, V0 + 1)?, &HAND)
 }
 
 /// The cartridge at 0 is entered and the one at 1 cannot be read; then the enter is cancelled, and the
@@ -101,19 +103,19 @@ const CANCELLED: [Call; 13] = [
 
 #[test]
 fn cancelled_half_way(rt: HostRuntime) -> Result<(), Fail> {
-    over_tag_frame(rt, &[PORT, PORT, PORT, DRIVE, CELL, CELL], 0, &CANCELLED)
+    over(
+        rt,
+        TagFrame::new(rt.alloc(), &[PORT, PORT, PORT, DRIVE, CELL, CELL], 0)?,
+        &CANCELLED,
+    )
 }
 
 /// 21 port places, 4 drives and 231 cells. Drive 21 holds a cartridge that cannot be read, cell 25
 /// `000000` and cell 255 `ZZZZZZ`.
 fn large_site() -> [Place; 256] {
     let mut places = [CELL; 256];
-    for p in 0..21 {
-        places[p] = PORT;
-    }
-    for p in 21..25 {
-        places[p] = DRIVE;
-    }
+    places[0..21].fill(PORT);
+    places[21..25].fill(DRIVE);
     places[21].cartridge = UNREADABLE_NUMBER;
     places[25].cartridge = 1;
     places[255].cartridge = 2_176_782_336;
@@ -166,5 +168,5 @@ const FULL_PORT: [Call; 27] = [
 
 #[test]
 fn full_port_of_a_large_bay(rt: HostRuntime) -> Result<(), Fail> {
-    over_bay(rt, &large_site(), 0, &FULL_PORT)
+    over(rt, Bay::new(rt.alloc(), &large_site(), 0)?, &FULL_PORT)
 }

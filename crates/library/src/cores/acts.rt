@@ -1,11 +1,17 @@
-ghost use Rattle.library.specs.Cores.{Live, library_of};
+ghost use Rattle.library.specs.Changes.{with_drives, with_requests};
+ghost use Rattle.library.specs.Cores.{library_of, work_of};
+ghost use Rattle.library.specs.Drives.{drive_told, named};
 ghost use Rattle.library.specs.Making.{fresh};
+ghost use Rattle.library.specs.Marks.{work_meets};
 ghost use Rattle.library.specs.Posting.{with_posted};
-ghost use Rattle.stock.specs.Models.{stock_of};
-ghost use Rattle.std.specs.Prelude.{◌≡◌, length};
+ghost use Rattle.requests.specs.declared.bodies.Request.{Request};
+ghost use Rattle.ring.specs.Order.{any_of};
+ghost use Rattle.ring.specs.Queue.{Answers, records};
+ghost use Rattle.std.specs.Prelude.{◌≡◌, Bool, ◌||◌, length};
 
 use super::Core;
-use crate::drive::DriveState;
+use crate::drive::{DriveEvent, DriveState};
+use crate::marks::names_drive;
 use crate::message::{Message, Notice};
 use crate::slots::{MESSAGE_SLOTS, REQUEST_SLOTS};
 use crate::state::State;
@@ -21,8 +27,7 @@ impl<'a, R: Robot> Core<'a, R> {
         waiting: &'a mut [Request],
         messages: &'a mut [Message],
     ) -> Core<'a, R>
-        ensures library { library_of R.Questions.meaning result ≡ fresh (stock_of R.Questions.meaning stock) (length waiting.old) (length messages.old) }
-        ensures live { Live result }
+        ensures { library_of result ≡ fresh stock (length waiting.old) (length messages.old) }
     {
         let waiting = Ring::new(waiting, REQUEST_SLOTS);
         let messages = Ring::new(messages, MESSAGE_SLOTS);
@@ -39,24 +44,55 @@ impl<'a, R: Robot> Core<'a, R> {
 
     /// Posts a message to the operator, if there is one; where the queue is full it is dropped and counted.
     pub fn post(&mut self, notice: Option<Notice>, number: u16)
-        requires { Live self.old }
-        ensures library { library_of R.Questions.meaning self.new ≡ with_posted notice number (library_of R.Questions.meaning self.old) }
-        ensures live { Live self.new }
+        ensures { library_of self.new ≡ with_posted notice number (library_of self.old) }
     {
         let Some(notice) = notice else {
             return;
         };
-        if self
-            .messages
-            .push(Message {
-                kind: notice.number(),
-                number,
-            })
-            .is_err()
-        {
-            if self.dropped < 65535 {
-                self.dropped += 1;
+        let message = Message {
+            kind: u8::from(notice),
+            number,
+        };
+        if self.messages.push(message).is_err() {
+            self.dropped = self.dropped.saturating_add(1);
+        }
+    }
+
+    /// Whether a waiting mount or dismount names the drive.
+    pub fn is_named(&self, drive: u8) -> bool
+        ensures { result ≡ named drive (records self.now.waiting) }
+    {
+        self.waiting.any(|q| names_drive(drive, q.body))
+    }
+
+    /// Tells a drive what happens to it.
+    pub fn turn_drive(&mut self, drive: u8, event: DriveEvent)
+        ensures { library_of self.new ≡ with_drives (drive_told self.old.drives drive event) (library_of self.old) }
+    {
+        self.drives[usize::from(drive)].turn(event);
+    }
+
+    /// Whether some request, waiting or at work, meets the condition.
+    pub fn any_request<F: Fn(Request) -> bool>(&self, is_met: F) -> bool
+        requires { F.IsAlwaysCallable is_met }
+        ensures { (p : Request → Bool) → Answers (F.post is_met) p → result ≡ (work_meets p (work_of self.now.work) || any_of p (records self.now.waiting)) }
+    {
+        if let Some(work) = &self.work {
+            if is_met(work.request) {
+                return true;
             }
+        }
+        self.waiting.any(&is_met)
+    }
+
+    /// Changes each request, waiting or at work.
+    pub fn change_requests<F: Fn(Request) -> Request>(&mut self, change: F)
+        requires { F.IsAlwaysCallable change }
+        ensures { (f : Request → Request) → Answers (F.post change) f → library_of self.new ≡ with_requests f (library_of self.old) }
+    {
+        self.waiting.each(&change);
+        if let Some(work) = &mut self.work {
+            work.request = change(work.request);
         }
     }
 }

@@ -2,14 +2,13 @@
 
 ghost use Rattle.std.specs.Prelude.{◌≡◌, ◌<◌, [], ◌∷◌, ◌++◌, length, if◌then◌else◌, Ok, Err, nat_le, nat_lt, slice_set};
 ghost use Rattle.ring.specs.Order.{first, rest};
-ghost use Rattle.ring.specs.Queue.{Kept, Sound, records};
+ghost use Rattle.ring.specs.Queue.{Kept, records};
 
 use super::Ring;
 
 impl<'a, T: Copy> Ring<'a, T> {
     /// How many records there are.
     pub fn len(&self) -> usize
-        requires { Sound self.now }
         ensures { result ≡ length (records self.now) }
     {
         self.count
@@ -17,7 +16,6 @@ impl<'a, T: Copy> Ring<'a, T> {
 
     /// Whether every slot in use has a record.
     pub fn is_full(&self) -> bool
-        requires { Sound self.now }
         ensures { result ≡ nat_le self.now.capacity (length (records self.now)) }
     {
         self.capacity <= self.len()
@@ -25,10 +23,8 @@ impl<'a, T: Copy> Ring<'a, T> {
 
     /// Puts a record in the place of the i-th oldest; where there is none it hands the record back.
     pub fn replace(&mut self, i: usize, x: T) -> Result<(), T>
-        requires { Sound self.old }
         ensures answer { result ≡ (if nat_lt i (length (records self.old)) then Ok tt else Err x) }
         ensures records { records self.new ≡ (if nat_lt i (length (records self.old)) then slice_set (records self.old) i x else records self.old) }
-        ensures sound { Sound self.new }
         ensures kept { Kept self.old self.new }
     {
         if i < self.len() {
@@ -41,10 +37,8 @@ impl<'a, T: Copy> Ring<'a, T> {
 
     /// Adds a record as the newest; a full ring hands it back.
     pub fn push(&mut self, x: T) -> Result<(), T>
-        requires { Sound self.old }
         ensures answer { result ≡ (if nat_lt (length (records self.old)) self.old.capacity then Ok tt else Err x) }
         ensures records { records self.new ≡ (if nat_lt (length (records self.old)) self.old.capacity then records self.old ++ x ∷ [] else records self.old) }
-        ensures sound { Sound self.new }
         ensures kept { Kept self.old self.new }
     {
         if self.len() < self.capacity {
@@ -57,10 +51,8 @@ impl<'a, T: Copy> Ring<'a, T> {
 
     /// Takes the oldest record out.
     pub fn pop(&mut self) -> Option<T>
-        requires { Sound self.old }
         ensures answer { result ≡ first (records self.old) }
         ensures records { records self.new ≡ rest (records self.old) }
-        ensures sound { Sound self.new }
         ensures kept { Kept self.old self.new }
     {
         let oldest = self.get(0);

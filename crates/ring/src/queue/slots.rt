@@ -1,8 +1,8 @@
 //! Where a record lies: the only functions that reach into the slots.
 
-ghost use Rattle.std.specs.Prelude.{◌≡◌, ◌+◌, ◌-◌, ◌<◌, ◌≤◌, min, [], ◌∷◌, ◌++◌, length, slice_set};
+ghost use Rattle.std.specs.Prelude.{◌≡◌, ◌<◌, ◌≤◌, min, [], ◌∷◌, ◌++◌, length, slice_set};
 ghost use Rattle.ring.specs.Order.{rest, slot_of};
-ghost use Rattle.ring.specs.Queue.{Kept, Sound, records};
+ghost use Rattle.ring.specs.Queue.{Kept, records};
 ghost use Rattle.std.specs.List.{slice_get};
 
 use super::Ring;
@@ -10,13 +10,11 @@ use super::Ring;
 impl<'a, T: Copy> Ring<'a, T> {
     /// An empty ring in the first `limit` of the slots, or in all of them where they are fewer.
     pub fn new(slots: &'a mut [T], limit: usize) -> Ring<'a, T>
-        ensures sound { Sound result }
         ensures none { records result ≡ [] }
         ensures capacity { result.capacity ≡ min (length slots.old) limit }
         ensures slots { result.slots.now ≡ slots.old }
     {
-        let all = slots.len();
-        let capacity = if all < limit { all } else { limit };
+        let capacity = slots.len().min(limit);
         Ring {
             slots,
             capacity,
@@ -27,8 +25,7 @@ impl<'a, T: Copy> Ring<'a, T> {
 
     /// The slot of the i-th oldest.
     fn slot(&self, i: usize) -> usize
-        requires sound { Sound self.now }
-        requires least { i ≤ self.now.capacity }
+        requires { i ≤ self.now.capacity }
         ensures at { result ≡ slot_of self.now.capacity self.now.head i }
         ensures most { result ≤ self.now.capacity }
         ensures within { i < self.now.capacity → result < self.now.capacity }
@@ -39,7 +36,6 @@ impl<'a, T: Copy> Ring<'a, T> {
 
     /// The i-th oldest record, counted from 0.
     pub fn get(&self, i: usize) -> Option<T>
-        requires { Sound self.now }
         ensures { result ≡ slice_get (records self.now) i }
     {
         if i < self.count {
@@ -53,10 +49,8 @@ impl<'a, T: Copy> Ring<'a, T> {
 
     /// Writes a record over the i-th oldest.
     pub(super) fn overwrite(&mut self, i: usize, x: T)
-        requires sound { Sound self.old }
-        requires within { i < length (records self.old) }
+        requires { i < length (records self.old) }
         ensures records { records self.new ≡ slice_set (records self.old) i x }
-        ensures sound { Sound self.new }
         ensures kept { Kept self.old self.new }
     {
         let at = self.slot(i);
@@ -65,10 +59,8 @@ impl<'a, T: Copy> Ring<'a, T> {
 
     /// Writes a record behind the newest.
     pub(super) fn append(&mut self, x: T)
-        requires sound { Sound self.old }
-        requires free { length (records self.old) < self.old.capacity }
+        requires { length (records self.old) < self.old.capacity }
         ensures records { records self.new ≡ records self.old ++ x ∷ [] }
-        ensures sound { Sound self.new }
         ensures kept { Kept self.old self.new }
     {
         let n = self.count;
@@ -79,10 +71,8 @@ impl<'a, T: Copy> Ring<'a, T> {
 
     /// Leaves the slot of the oldest.
     pub(super) fn advance(&mut self)
-        requires sound { Sound self.old }
-        requires some { 0 < length (records self.old) }
+        requires { 0 < length (records self.old) }
         ensures records { records self.new ≡ rest (records self.old) }
-        ensures sound { Sound self.new }
         ensures kept { Kept self.old self.new }
     {
         self.head = self.slot(1);

@@ -1,43 +1,42 @@
 ghost use Rattle.std.specs.Prelude.{◌≡◌};
-ghost use Rattle.robot_moves.specs.Slips.{found_in_hand, slip_from};
+ghost use Rattle.robot_moves.specs.Slips.{token_of};
 
-/// Held for a cartridge in the hand, until it is set down or put back. It is not `Drop`, so that no
-/// slip is let go unspent.
-pub struct Slip {
-    from: u16,
+/// Held for a cartridge in the hand, until it is set down or put back, or stays there since no cell is free. It is
+/// not `Drop`, so that none is let go unspent.
+pub struct Token<T> {
+    of: T,
 }
 
-impl Slip {
-    pub(super) fn new(from: u16) -> Slip
-        ensures { result ≡ slip_from from }
-    {
-        Slip { from }
-    }
-
-    /// Ends the slip, and tells the place that the cartridge was lifted from.
-    pub(super) fn spend(self) -> u16
-        ensures { result ≡ self.from }
-    {
-        let Slip { from } = self;
-        from
-    }
+/// A cartridge that was lifted, by its place.
+#[derive(Clone, Copy)]
+pub struct Lifted {
+    pub from: u16,
 }
 
-/// Held for a cartridge that was in the hand before, until it is set down, or stays there since no cell is free.
-/// Nor is this token let go.
-pub struct Found {
-    cartridge: u32,
+/// A cartridge that was in the hand before, by its number.
+#[derive(Clone, Copy)]
+pub struct InHand {
+    pub cartridge: u32,
 }
 
-impl Found {
-    pub(super) fn new(cartridge: u32) -> Found
-        ensures { result ≡ found_in_hand cartridge }
+/// The token for a cartridge that was lifted.
+pub type Slip = Token<Lifted>;
+
+/// The token for a cartridge that was in the hand before.
+pub type Found = Token<InHand>;
+
+impl<T> Token<T> {
+    pub(super) fn new(of: T) -> Token<T>
+        ensures { result ≡ token_of of }
     {
-        Found { cartridge }
+        Token { of }
     }
 
-    /// Ends the token.
-    pub(super) fn spend(self) {
-        let Found { cartridge: _ } = self;
+    /// Ends the token, and tells what it has.
+    pub(super) fn spend(self) -> T
+        ensures { result ≡ self.of }
+    {
+        let Token { of } = self;
+        of
     }
 }

@@ -1,7 +1,7 @@
 ghost use Rattle.std.specs.Prelude.{◌≡◌, ◌≤◌, [], length, IfOk};
-ghost use Rattle.library.specs.Cores.{Live, library_of, work_of};
+ghost use Rattle.library.specs.Cores.{library_of};
 ghost use Rattle.library.specs.Making.{fresh};
-ghost use Rattle.server.specs.Calls.{in_use, number_read, receive_call, step_call, used_by, work_has};
+ghost use Rattle.server.specs.Calls.{number_read, receive_call, step_call, used_by};
 ghost use Rattle.server.specs.Door.{message_call};
 ghost use Rattle.server.specs.Hands.{put_call, service_call, take_call};
 
@@ -9,8 +9,7 @@ use super::Serving;
 use crate::hands::{put, switch, take};
 use crate::refusal::CallRefusal;
 use crate::sending::{send_answer, send_bad_packet, send_final};
-use library::cores::{Core, Work};
-use library::marks::Numbered;
+use library::cores::Core;
 use library::message::Message;
 use receipt::receive::receive;
 use requests::{BadPacket, Request, read};
@@ -33,29 +32,13 @@ fn number_in(read: &Result<Request, BadPacket>) -> Option<u16>
     }
 }
 
-fn work_has(work: Option<Work>, number: u16) -> bool
-    ensures { result ≡ work_has (work_of work) number }
-{
-    match work {
-        Some(work) => work.request.number == number,
-        None => false,
-    }
-}
-
-fn in_use<R: Robot>(core: &Core<R>, number: u16) -> bool
-    requires { Live core.now }
-    ensures { result ≡ in_use (library_of R.Questions.meaning core.now) number }
-{
-    work_has(core.work, number) || core.waiting.any(&Numbered(number))
-}
-
 /// Whether the number is one waiting or at work.
 fn is_used<R: Robot>(core: &Core<R>, number: Option<u16>) -> bool
-    requires { Live core.now }
-    ensures { result ≡ used_by (library_of R.Questions.meaning core.now) number }
+    ensures { result ≡ used_by (library_of core.now) number }
 {
+    // No `is_some_and`: what a closure within a closure answers is lost to the proof.
     match number {
-        Some(number) => in_use(core, number),
+        Some(number) => core.any_request(|q| q.number == number),
         None => false,
     }
 }
@@ -69,7 +52,7 @@ impl<'a, R: Robot + Drop> Serving<'a, R> {
         waiting: &'a mut [Request],
         messages: &'a mut [Message],
     ) -> Result<Serving<'a, R>, AllocError>
-        ensures { IfOk result (λ s. library_of R.Questions.meaning s.core ≡ fresh (record { robot = R.Questions.meaning robot; filed = [] }) (length waiting.old) (length messages.old)) }
+        ensures { IfOk result (λ s. s ≡ fresh (record { robot = R.Questions.meaning robot; filed = [] }) (length waiting.old) (length messages.old)) }
     {
         let catalogue = Catalogue::new(heap)?;
         let core = Core::new(Stock::new(robot, catalogue), waiting, messages);
@@ -80,9 +63,9 @@ impl<'a, R: Robot + Drop> Serving<'a, R> {
 impl<'a, R: Robot> Serving<'a, R> {
     /// Receives a packet: writes one response at the front of the buffer, and tells its length.
     pub fn receive(&mut self, packet: &[u8], buffer: &mut [u8]) -> Result<usize, CallRefusal>
-        ensures answer { result ≡ (receive_call packet.now buffer.old (library_of R.Questions.meaning self.old.core)).answer }
-        ensures buffer { buffer.new ≡ (receive_call packet.now buffer.old (library_of R.Questions.meaning self.old.core)).buffer }
-        ensures library { library_of R.Questions.meaning self.new.core ≡ (receive_call packet.now buffer.old (library_of R.Questions.meaning self.old.core)).library }
+        ensures answer { result ≡ (receive_call packet.now buffer.old self.old).answer }
+        ensures buffer { buffer.new ≡ (receive_call packet.now buffer.old self.old).buffer }
+        ensures library { self.new ≡ (receive_call packet.now buffer.old self.old).library }
         ensures bound { IfOk result (λ n. n ≤ 2048) }
     {
         if buffer.len() < RESPONSE_ROOM {
@@ -93,35 +76,36 @@ impl<'a, R: Robot> Serving<'a, R> {
             return Err(CallRefusal::NumberInUse);
         }
         match request {
-            Err(bad) => Ok(send_bad_packet(bad, buffer)),
+            Err(bad) => Ok(send_bad_packet(bad, buffer).length),
             Ok(request) => {
                 let answer = receive(&mut self.core, request);
-                Ok(send_answer(&self.core, answer, buffer))
+                Ok(send_answer(&self.core, &answer, buffer).length)
             }
         }
     }
 
     /// Goes one step on: writes the final that it ends a request with, and tells its length, or 0 where it writes nothing.
     pub fn step(&mut self, buffer: &mut [u8]) -> Result<usize, CallRefusal>
-        ensures answer { result ≡ (step_call buffer.old (library_of R.Questions.meaning self.old.core)).answer }
-        ensures buffer { buffer.new ≡ (step_call buffer.old (library_of R.Questions.meaning self.old.core)).buffer }
-        ensures library { library_of R.Questions.meaning self.new.core ≡ (step_call buffer.old (library_of R.Questions.meaning self.old.core)).library }
+        ensures answer { result ≡ (step_call buffer.old self.old).answer }
+        ensures buffer { buffer.new ≡ (step_call buffer.old self.old).buffer }
+        ensures library { self.new ≡ (step_call buffer.old self.old).library }
         ensures bound { IfOk result (λ n. n ≤ 2048) }
     {
         if buffer.len() < RESPONSE_ROOM {
             return Err(CallRefusal::ShortBuffer);
         }
+        // No response is empty, so 0 says that nothing was written.
         match step(&mut self.core) {
             None => Ok(0),
-            Some(ended) => Ok(send_final(&self.core, ended, buffer)),
+            Some(ended) => Ok(send_final(&self.core, &ended, buffer).length),
         }
     }
 
     /// Takes the oldest message to the operator, if there is one, and tells how many were dropped.
     pub(crate) fn message(&mut self) -> (Option<Message>, u16)
-        ensures message { result.0 ≡ (message_call (library_of R.Questions.meaning self.old.core)).message }
-        ensures dropped { result.1 ≡ (message_call (library_of R.Questions.meaning self.old.core)).dropped }
-        ensures library { library_of R.Questions.meaning self.new.core ≡ (message_call (library_of R.Questions.meaning self.old.core)).library }
+        ensures message { result.0 ≡ (message_call self.old).message }
+        ensures dropped { result.1 ≡ (message_call self.old).dropped }
+        ensures library { self.new ≡ (message_call self.old).library }
     {
         let message = self.core.messages.pop();
         (message, self.core.dropped)
@@ -129,24 +113,24 @@ impl<'a, R: Robot> Serving<'a, R> {
 
     /// A person puts a cartridge into a port place.
     pub fn put(&mut self, place: u16, number: u32) -> Result<(), CallRefusal>
-        ensures answer { result ≡ (put_call (library_of R.Questions.meaning self.old.core) place number).answer }
-        ensures library { library_of R.Questions.meaning self.new.core ≡ (put_call (library_of R.Questions.meaning self.old.core) place number).library }
+        ensures answer { result ≡ (put_call self.old place number).answer }
+        ensures library { self.new ≡ (put_call self.old place number).library }
     {
         put(&mut self.core, place, number)
     }
 
     /// A person takes the cartridge out of a port place, and its number is told.
     pub fn take(&mut self, place: u16) -> Result<u32, CallRefusal>
-        ensures answer { result ≡ (take_call (library_of R.Questions.meaning self.old.core) place).answer }
-        ensures library { library_of R.Questions.meaning self.new.core ≡ (take_call (library_of R.Questions.meaning self.old.core) place).library }
+        ensures answer { result ≡ (take_call self.old place).answer }
+        ensures library { self.new ≡ (take_call self.old place).library }
     {
         take(&mut self.core, place)
     }
 
     /// Puts a place into service, or out of it.
     pub fn service(&mut self, place: u16, on: bool) -> Result<(), CallRefusal>
-        ensures answer { result ≡ (service_call (library_of R.Questions.meaning self.old.core) place on).answer }
-        ensures library { library_of R.Questions.meaning self.new.core ≡ (service_call (library_of R.Questions.meaning self.old.core) place on).library }
+        ensures answer { result ≡ (service_call self.old place on).answer }
+        ensures library { self.new ≡ (service_call self.old place on).library }
     {
         switch(&mut self.core, place, on)
     }

@@ -18,7 +18,7 @@ const DOOR_NUMBER: u16 = 0;
 impl<'a, R: Robot> Serving<'a, R> {
     /// Opens the door: idle at once, from every state.
     pub(crate) fn open(self) -> Open<'a, R>
-        ensures { with_door true (library_of R.Questions.meaning result.core) ≡ open_call (library_of R.Questions.meaning self.entry.core) }
+        ensures { result ≡ open_call self.entry }
     {
         let Serving { mut core } = self;
         force_idle(&mut core, DOOR_NUMBER);
@@ -29,7 +29,7 @@ impl<'a, R: Robot> Serving<'a, R> {
 impl<'a, R: Robot> Open<'a, R> {
     /// Shuts the door. The library stays idle.
     pub(crate) fn shut(self) -> Serving<'a, R>
-        ensures { library_of R.Questions.meaning result.core ≡ shut_call (with_door true (library_of R.Questions.meaning self.entry.core)) }
+        ensures { result ≡ shut_call self.entry }
     {
         let Open { core } = self;
         Serving { core }
@@ -37,24 +37,24 @@ impl<'a, R: Robot> Open<'a, R> {
 
     /// A person puts a cartridge into any place.
     pub(crate) fn put(&mut self, place: u16, number: u32) -> Result<(), CallRefusal>
-        ensures answer { result ≡ (put_through (with_door true (library_of R.Questions.meaning self.old.core)) place number).answer }
-        ensures library { with_door true (library_of R.Questions.meaning self.new.core) ≡ (put_through (with_door true (library_of R.Questions.meaning self.old.core)) place number).library }
+        ensures answer { result ≡ (put_through self.old place number).answer }
+        ensures library { self.new ≡ (put_through self.old place number).library }
     {
         put_inside(&mut self.core, place, number)
     }
 
     /// A person takes the cartridge out of any place, and its number is told.
     pub(crate) fn take(&mut self, place: u16) -> Result<u32, CallRefusal>
-        ensures answer { result ≡ (take_through (with_door true (library_of R.Questions.meaning self.old.core)) place).answer }
-        ensures library { with_door true (library_of R.Questions.meaning self.new.core) ≡ (take_through (with_door true (library_of R.Questions.meaning self.old.core)) place).library }
+        ensures answer { result ≡ (take_through self.old place).answer }
+        ensures library { self.new ≡ (take_through self.old place).library }
     {
         take_inside(&mut self.core, place)
     }
 
     /// Puts a place into service, or out of it.
     pub(crate) fn service(&mut self, place: u16, on: bool) -> Result<(), CallRefusal>
-        ensures answer { result ≡ (service_call (with_door true (library_of R.Questions.meaning self.old.core)) place on).answer }
-        ensures library { with_door true (library_of R.Questions.meaning self.new.core) ≡ (service_call (with_door true (library_of R.Questions.meaning self.old.core)) place on).library }
+        ensures answer { result ≡ (service_call self.old place on).answer }
+        ensures library { self.new ≡ (service_call self.old place on).library }
     {
         switch(&mut self.core, place, on)
     }

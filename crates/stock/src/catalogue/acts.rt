@@ -1,52 +1,48 @@
-ghost use Rattle.std.specs.Prelude.{◌≡◌, ◌+◌, [], IfOk};
-ghost use Rattle.stock.specs.Catalogues.{filed_in};
-ghost use Rattle.stock.specs.Filing.{filed_more, index_of, refiled, seen, unfiled, volume_of};
+ghost use Rattle.std.specs.Prelude.{◌≡◌, ◌+◌, ◌<◌, ◌==◌, [], IfOk, IfSome, drop, length};
+ghost use Rattle.stock.specs.Filing.{filed_more, index_of, refiled, unfiled, volume_of};
+ghost use Rattle.std.specs.List.{list_any, position_from};
 
 use super::{Catalogue, Filed, Row, Volume};
 use std::alloc::{AllocError, Global};
 
-/// What is known of a label once the row at `index` is seen.
-fn seen(number: u32, known: Option<Volume>, index: usize, row: Filed) -> Option<Volume>
-    ensures { result ≡ seen number known index row }
+/// The first row with this number.
+fn first_row(rows: &[Filed], number: u32) -> Option<usize>
+    ensures value { result ≡ position_from (λ row. row.number == number) 0 rows.now }
+    ensures within { IfSome result (λ i. i < length rows.now) }
 {
-    if row.number == number {
-        match known {
-            None => Some(Volume::One(Row {
-                index,
-                place: row.place,
-            })),
-            Some(_) => Some(Volume::Several),
-        }
-    } else {
-        known
-    }
+    rows.iter().position(|row| row.number == number)
 }
 
+/// Whether a row from `from` on has this number.
+fn any_from(rows: &[Filed], from: usize, number: u32) -> bool
+    ensures { result ≡ list_any (λ row. row.number == number) (drop from rows.now) }
+{
+    rows.iter().skip(from).any(|row| row.number == number)
+}
+
+/// The row that is the first with this number, or that there is another too.
 fn volume_in(rows: &[Filed], number: u32) -> Option<Volume>
     ensures { result ≡ volume_of rows.now number }
 {
-    let mut found = None;
-    for i in 0..rows.len() {
-        found = seen(number, found, i, rows[i]);
+    let index = first_row(rows, number)?;
+    if any_from(rows, index + 1, number) {
+        return Some(Volume::Several);
     }
-    found
+    let place = rows[index].place;
+    Some(Volume::One(Row { index, place }))
 }
 
+/// The first row that names the place.
 fn index_in(rows: &[Filed], place: u16) -> Option<usize>
     ensures { result ≡ index_of rows.now place }
 {
-    for i in 0..rows.len() {
-        if rows[i].place == place {
-            return Some(i);
-        }
-    }
-    None
+    rows.iter().position(|row| row.place == place)
 }
 
 impl Catalogue {
     /// An empty catalogue; the only call of it that can want memory.
     pub fn new(heap: Global) -> Result<Catalogue, AllocError>
-        ensures { IfOk result (λ c. filed_in c ≡ []) }
+        ensures { IfOk result (λ c. c ≡ []) }
     {
         let rows = Vec::with_capacity(heap, 256)?;
         Ok(Catalogue { rows })
@@ -54,30 +50,30 @@ impl Catalogue {
 
     /// Where the cartridge of this number is filed, if it is.
     pub fn volume(&self, number: u32) -> Option<Volume>
-        ensures { result ≡ volume_of (filed_in self.now) number }
+        ensures { result ≡ volume_of self.now number }
     {
         volume_in(&self.rows, number)
     }
 
     /// The row that names the place, if there is one.
     pub fn row_of(&self, place: u16) -> Option<usize>
-        ensures { result ≡ index_of (filed_in self.now) place }
+        ensures { result ≡ index_of self.now place }
     {
         index_in(&self.rows, place)
     }
 
     /// What a row has is now at `to`.
     pub fn refile(&mut self, index: usize, to: u16)
-        ensures { filed_in self.new ≡ refiled index to (filed_in self.old) }
+        ensures { self.new ≡ refiled index to self.old }
     {
-        if index < self.rows.len() {
-            self.rows[index].place = to;
+        if let Some(row) = self.rows.get_mut(index) {
+            row.place = to;
         }
     }
 
     /// What a row has is filed no more.
     pub fn unfile(&mut self, index: usize)
-        ensures { filed_in self.new ≡ unfiled index (filed_in self.old) }
+        ensures { self.new ≡ unfiled index self.old }
     {
         if index < self.rows.len() {
             let _ = self.rows.remove(index);
@@ -86,16 +82,16 @@ impl Catalogue {
 
     /// Files a cartridge, if there is room.
     pub fn file(&mut self, number: u32, place: u16)
-        ensures { filed_in self.new ≡ filed_more (record { number = number; place = place }) (filed_in self.old) }
+        ensures { self.new ≡ filed_more (record { number = number; place = place }) self.old }
     {
         if self.rows.len() < 256 {
-            let _ = self.rows.push(Filed { number, place });
+            self.rows.push_reserved(Filed { number, place });
         }
     }
 
     /// Files nothing any more.
     pub fn clear(&mut self)
-        ensures { filed_in self.new ≡ [] }
+        ensures { self.new ≡ [] }
     {
         self.rows.clear();
     }

@@ -2,7 +2,6 @@
 
 ghost use Rattle.robot_moves.specs.Movement.{movement};
 ghost use Rattle.stock.specs.Filing.{volume_of};
-ghost use Rattle.stock.specs.Models.{stock_of};
 ghost use Rattle.stock.specs.Moves.{cell_of, dismounted, ejected, entered, entered_new, entry_for, followed, located_by, mounted, moved, why_stopped};
 ghost use Rattle.std.specs.Prelude.{◌≡◌, ◌||◌, nat_eq};
 
@@ -13,7 +12,8 @@ use crate::stock::lookups::held;
 use labels::UNREADABLE_NUMBER;
 use responses::Entry;
 use robot_moves::movement::{Stopped, Target, move_cartridge};
-use robot_moves::search::is_drive;
+use robot_moves::search::is_of;
+use robots::kind::Kind;
 use robots::robot::Robot;
 use statuses::Status;
 
@@ -44,10 +44,7 @@ pub(super) fn why_stopped(target: Target, why: Stopped) -> Refusal
 pub fn located(volume: Option<Volume>) -> Result<Row, Refusal>
     ensures { result ≡ located_by volume }
 {
-    let Some(volume) = volume else {
-        return Err(Refusal::NoVolume);
-    };
-    let Volume::One(row) = volume else {
+    let Volume::One(row) = volume.ok_or(Refusal::NoVolume)? else {
         return Err(Refusal::SeveralVolumes);
     };
     Ok(row)
@@ -63,23 +60,18 @@ fn may_dismount(force: bool, in_drive: u32, number: u32) -> bool
 impl<R: Robot> Stock<R> {
     /// The row of the label with this number, which must be in a cell.
     fn cell_of(&self, number: u32) -> Result<Row, Refusal>
-        ensures { result ≡ cell_of (stock_of R.Questions.meaning self.now) number }
+        ensures { result ≡ cell_of self.now number }
     {
-        match located(self.catalogue.volume(number)) {
-            Ok(row) => {
-                if is_drive(&self.robot, row.place) {
-                    Err(Refusal::InDrive(row.place))
-                } else {
-                    Ok(row)
-                }
-            }
-            Err(why) => Err(why),
+        let row = located(self.catalogue.volume(number))?;
+        if is_of(&self.robot, Kind::Drive, row.place) {
+            return Err(Refusal::InDrive(row.place));
         }
+        Ok(row)
     }
 
     /// What was filed in the row, if there is one, is now at `to`; what went to the port is filed no more.
     fn follow(&mut self, index: Option<usize>, target: Target, to: u16)
-        ensures { stock_of R.Questions.meaning self.new ≡ followed index target to (stock_of R.Questions.meaning self.old) }
+        ensures { self.new ≡ followed index target to self.old }
     {
         match (index, target) {
             (None, _) => {}
@@ -95,38 +87,31 @@ impl<R: Robot> Stock<R> {
         from: u16,
         target: Target,
     ) -> Result<Entry, Refusal>
-        ensures answer { result ≡ (moved (stock_of R.Questions.meaning self.old) index from target).answer }
-        ensures after { stock_of R.Questions.meaning self.new ≡ (moved (stock_of R.Questions.meaning self.old) index from target).stock }
+        ensures answer { result ≡ (moved self.old index from target).answer }
+        ensures after { self.new ≡ (moved self.old index from target).stock }
     {
-        match move_cartridge(&mut self.robot, from, target) {
-            Ok(gone) => {
-                self.follow(index, target, gone.to);
-                Ok(entry_for(gone.cartridge, from, gone.to, Status::Success))
-            }
-            Err(why) => Err(why_stopped(target, why)),
-        }
+        let moved = move_cartridge(&mut self.robot, from, target);
+        let gone = moved.map_err(|why| why_stopped(target, why))?;
+        self.follow(index, target, gone.to);
+        Ok(entry_for(gone.cartridge, from, gone.to, Status::Success))
     }
 
     /// Mounts the label with this number on the drive.
     pub fn mount(&mut self, number: u32, drive: u16) -> Result<Entry, Refusal>
-        ensures answer { result ≡ (mounted (stock_of R.Questions.meaning self.old) number drive).answer }
-        ensures after { stock_of R.Questions.meaning self.new ≡ (mounted (stock_of R.Questions.meaning self.old) number drive).stock }
+        ensures answer { result ≡ (mounted self.old number drive).answer }
+        ensures after { self.new ≡ (mounted self.old number drive).stock }
     {
-        match self.cell_of(number) {
-            Ok(row) => {
-                if held(&self.robot, drive) != 0 {
-                    return Err(Refusal::DriveInUse(drive));
-                }
-                self.move_filed(Some(row.index), row.place, Target::At(drive))
-            }
-            Err(why) => Err(why),
+        let row = self.cell_of(number)?;
+        if held(&self.robot, drive) != 0 {
+            return Err(Refusal::DriveInUse(drive));
         }
+        self.move_filed(Some(row.index), row.place, Target::At(drive))
     }
 
     /// Dismounts the drive; unforced, only the label with this number.
     pub fn dismount(&mut self, number: u32, force: bool, drive: u16) -> Result<Entry, Refusal>
-        ensures answer { result ≡ (dismounted (stock_of R.Questions.meaning self.old) number force drive).answer }
-        ensures after { stock_of R.Questions.meaning self.new ≡ (dismounted (stock_of R.Questions.meaning self.old) number force drive).stock }
+        ensures answer { result ≡ (dismounted self.old number force drive).answer }
+        ensures after { self.new ≡ (dismounted self.old number force drive).stock }
     {
         let in_drive = held(&self.robot, drive);
         if in_drive == 0 {
@@ -141,19 +126,17 @@ impl<R: Robot> Stock<R> {
 
     /// Ejects the label with this number to the port.
     pub fn eject(&mut self, number: u32) -> Result<Entry, Refusal>
-        ensures answer { result ≡ (ejected (stock_of R.Questions.meaning self.old) number).answer }
-        ensures after { stock_of R.Questions.meaning self.new ≡ (ejected (stock_of R.Questions.meaning self.old) number).stock }
+        ensures answer { result ≡ (ejected self.old number).answer }
+        ensures after { self.new ≡ (ejected self.old number).stock }
     {
-        match self.cell_of(number) {
-            Ok(row) => self.move_filed(Some(row.index), row.place, Target::LowestPort),
-            Err(why) => Err(why),
-        }
+        let row = self.cell_of(number)?;
+        self.move_filed(Some(row.index), row.place, Target::LowestPort)
     }
 
     /// Enters the readable cartridge at p, unless its label is filed already.
     fn enter_readable(&mut self, number: u32, p: u16) -> Entry
-        ensures answer { result ≡ (entered_new (volume_of (stock_of R.Questions.meaning self.old).filed number) (stock_of R.Questions.meaning self.old) number p).entry }
-        ensures after { stock_of R.Questions.meaning self.new ≡ (entered_new (volume_of (stock_of R.Questions.meaning self.old).filed number) (stock_of R.Questions.meaning self.old) number p).stock }
+        ensures answer { result ≡ (entered_new (volume_of self.old.filed number) self.old number p).entry }
+        ensures after { self.new ≡ (entered_new (volume_of self.old.filed number) self.old number p).stock }
     {
         if self.catalogue.volume(number).is_some() {
             return entry_for(number, p, p, Status::SeveralVolumes);
@@ -163,14 +146,19 @@ impl<R: Robot> Stock<R> {
                 self.catalogue.file(gone.cartridge, gone.to);
                 entry_for(gone.cartridge, p, gone.to, Status::Success)
             }
-            Err(why) => entry_for(number, p, p, why_stopped(Target::NextCell, why).status()),
+            Err(why) => entry_for(
+                number,
+                p,
+                p,
+                Status::from(why_stopped(Target::NextCell, why)),
+            ),
         }
     }
 
     /// Enters the cartridge at the port place p, or tells why it stays.
     pub fn enter(&mut self, p: u16) -> Entry
-        ensures answer { result ≡ (entered (stock_of R.Questions.meaning self.old) p).entry }
-        ensures after { stock_of R.Questions.meaning self.new ≡ (entered (stock_of R.Questions.meaning self.old) p).stock }
+        ensures answer { result ≡ (entered self.old p).entry }
+        ensures after { self.new ≡ (entered self.old p).stock }
     {
         let number = held(&self.robot, p);
         if number == UNREADABLE_NUMBER {

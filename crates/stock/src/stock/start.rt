@@ -2,7 +2,6 @@
 
 ghost use Rattle.robots.specs.Meaning.{count};
 ghost use Rattle.stock.specs.Holding.{inventory_of, readable, shown_at};
-ghost use Rattle.stock.specs.Models.{stock_of};
 ghost use Rattle.stock.specs.Starts.{begun, fit, hand_cleared, read_at};
 ghost use Rattle.std.specs.Prelude.{◌≡◌};
 
@@ -12,8 +11,10 @@ use crate::stock::lookups::held;
 use crate::stock::movements::why_stopped;
 use labels::UNREADABLE_NUMBER;
 use robot_moves::movement::{Target, empty_hand};
-use robot_moves::search::{is_port, port_count};
+use robot_moves::search::{is_of, port_count};
+use robots::kind::Kind;
 use robots::robot::{Questions, Robot};
+use std::array;
 
 /// Whether the number is that of a label.
 fn readable(number: u32) -> bool
@@ -35,38 +36,34 @@ fn fit<Q: Questions>(robot: &Q) -> bool
 fn shown<Q: Questions>(robot: &Q, p: u16) -> u32
     ensures { result ≡ shown_at (Q.meaning robot.now) p }
 {
-    if is_port(robot, p) { 0 } else { held(robot, p) }
+    if is_of(robot, Kind::Port, p) {
+        0
+    } else {
+        held(robot, p)
+    }
 }
 
 /// What cells and drives hold, for each of 256 places.
 fn inventory<Q: Questions>(robot: &Q) -> [u32; 256]
     ensures { result ≡ inventory_of (Q.meaning robot.now) }
 {
-    let mut places = [0u32; 256];
-    for p in 0..256u16 {
-        places[p as usize] = shown(robot, p);
-    }
-    places
+    array::from_fn(|p| shown(robot, p as u16))
 }
 
 impl<R: Robot> Stock<R> {
     /// Sets what the hand holds into the next free cell from the last place.
     fn clear_hand(&mut self) -> Result<(), Refusal>
-        ensures answer { result ≡ (hand_cleared (stock_of R.Questions.meaning self.old)).answer }
-        ensures after { stock_of R.Questions.meaning self.new ≡ (hand_cleared (stock_of R.Questions.meaning self.old)).stock }
+        ensures answer { result ≡ (hand_cleared self.old).answer }
+        ensures after { self.new ≡ (hand_cleared self.old).stock }
     {
-        let n = self.robot.places();
-        let last = if n == 0 { 0 } else { n - 1 };
-        match empty_hand(&mut self.robot, last) {
-            Ok(()) => Ok(()),
-            Err(why) => Err(why_stopped(Target::NextCell, why)),
-        }
+        let last = self.robot.places().saturating_sub(1);
+        empty_hand(&mut self.robot, last).map_err(|why| why_stopped(Target::NextCell, why))
     }
 
     /// The taking step of a start.
     pub fn begin(&mut self) -> Result<(), Refusal>
-        ensures answer { result ≡ (begun (stock_of R.Questions.meaning self.old)).answer }
-        ensures after { stock_of R.Questions.meaning self.new ≡ (begun (stock_of R.Questions.meaning self.old)).stock }
+        ensures answer { result ≡ (begun self.old).answer }
+        ensures after { self.new ≡ (begun self.old).stock }
     {
         if !fit(&self.robot) {
             return Err(Refusal::BadMakeUp);
@@ -77,7 +74,7 @@ impl<R: Robot> Stock<R> {
 
     /// A start reads the place p: a label in a cell or drive is filed.
     pub fn read(&mut self, p: u16)
-        ensures { stock_of R.Questions.meaning self.new ≡ read_at (stock_of R.Questions.meaning self.old) p }
+        ensures { self.new ≡ read_at self.old p }
     {
         let number = shown(&self.robot, p);
         if readable(number) {
@@ -87,7 +84,7 @@ impl<R: Robot> Stock<R> {
 
     /// What cells and drives hold, for each of 256 places.
     pub fn inventory(&self) -> [u32; 256]
-        ensures { result ≡ inventory_of (stock_of R.Questions.meaning self.now).robot }
+        ensures { result ≡ inventory_of self.now.robot }
     {
         inventory(&self.robot)
     }

@@ -1,8 +1,8 @@
-ghost use Rattle.std.specs.Prelude.{◌≡◌, ◌<◌, ◌≤◌, IfSome, ◌≢◌};
+ghost use Rattle.std.specs.Prelude.{◌≡◌, ◌<◌, ◌≤◌};
 ghost use Rattle.labels.specs.Numbers.{unreadable_number};
-ghost use Rattle.robots.specs.Acts.{with_held, with_service};
-ghost use Rattle.robots.specs.Making.{Made, place_asked};
-ghost use Rattle.robots.specs.Meaning.{count, held_at};
+ghost use Rattle.robots.specs.Acts.{with_held};
+ghost use Rattle.robots.specs.Making.{Made};
+ghost use Rattle.robots.specs.Meaning.{count};
 ghost use Rattle.tag_frame.specs.Frames.{frame_meaning};
 ghost use Rattle.std.proofs.Common.{◌∙◌, arith};
 ghost use Rattle.std.proofs.lemmas.List.{length-map};
@@ -11,12 +11,9 @@ ghost use Rattle.tag_frame.specs.Tagged.{held_length, held_number};
 use super::TagFrame;
 use crate::site::sites_of;
 use crate::table::Table;
-use robots::fault::Fault;
-use robots::kind::Kind;
-use robots::ladders::{may_lift, may_put, may_set, may_switch, may_take};
+use robots::keeper::{Granted, Keeper};
 use robots::making::{Unmade, check_places};
 use robots::place::Place;
-use robots::robot::{Questions, Robot};
 use std::alloc::Global;
 use std::mem;
 
@@ -27,32 +24,17 @@ impl TagFrame {
     {
         check_places(places, hand)?;
         let sites = sites_of(heap, places)?;
-        let table = Table::of_places(heap, places)?;
-        Ok(TagFrame { sites, table, hand })
-    }
-
-    /// The place p, if there is one.
-    fn place(&self, p: u16) -> Option<Place>
-        ensures value { result ≡ place_asked (frame_meaning self.now) p }
-        ensures number { IfSome result (λ x. x.cartridge ≤ unreadable_number) }
-    {
-        let i = p as usize;
-        if i >= self.sites.len() {
-            return None;
+        let table = Table::empty(heap, places.len() as u16)?;
+        let mut frame = TagFrame { sites, table, hand };
+        for (p, place) in places.iter().enumerate() {
+            frame.hold(p as u16, place.cartridge, hand);
         }
-        let site = self.sites[i];
-        Some(Place {
-            kind: site.kind,
-            cartridge: self.table.number_at(p),
-            in_service: site.in_service,
-        })
+        Ok(frame)
     }
 
-    /// The empty place p and the hand now hold these. The table is changed by value, and written back whole.
-    fn fill(&mut self, p: u16, number: u32, hand: u32)
+    /// Place p and the hand now hold these. The table is changed by value, and written back whole.
+    fn hold(&mut self, p: u16, number: u32, hand: u32)
         requires within { p < count (frame_meaning self.old) }
-        requires empty { held_at (frame_meaning self.old) p ≡ 0 }
-        requires some { 0 < number }
         requires numbered { number ≤ unreadable_number }
         requires handed { hand ≤ unreadable_number }
         ensures { frame_meaning self.new ≡ with_held (frame_meaning self.old) p number hand }
@@ -61,30 +43,11 @@ impl TagFrame {
         self.table = table.with(p, number);
         self.hand = hand;
     }
-
-    /// The full place p is now empty, and the hand holds this.
-    fn clear(&mut self, p: u16, hand: u32)
-        requires full { held_at (frame_meaning self.old) p ≢ 0 }
-        requires handed { hand ≤ unreadable_number }
-        ensures { frame_meaning self.new ≡ with_held (frame_meaning self.old) p 0 hand }
-    {
-        let table = mem::replace(&mut self.table, Table::none(*self.sites.allocator()));
-        self.table = table.without(p);
-        self.hand = hand;
-    }
-
-    /// Place p is now in service, or out of it.
-    fn turn(&mut self, p: u16, on: bool)
-        requires { p < count (frame_meaning self.old) }
-        ensures { frame_meaning self.new ≡ with_service (frame_meaning self.old) p on }
-    {
-        let i = p as usize;
-        self.sites[i].in_service = on;
-    }
 }
 
-impl Questions for TagFrame {
-    ghost meaning = { frame_meaning };
+// Indices are made by `as`: one by `From` has an equation that each proof would have to carry.
+impl Keeper for TagFrame {
+    ghost kept = { frame_meaning };
 
     ghost sound = { λ f.
         let n = f.table.count in
@@ -97,64 +60,27 @@ impl Questions for TagFrame {
           hand_number = f.handed;
         } };
 
-    fn places(&self) -> u16 {
+    fn place_count(&self) -> u16 {
         self.sites.len() as u16
     }
 
-    fn in_hand(&self) -> u32 {
+    fn hand(&self) -> u32 {
         self.hand
     }
 
-    fn kind(&self, p: u16) -> Option<Kind> {
-        match self.place(p) {
-            Some(place) => Some(place.kind),
-            None => None,
-        }
+    fn place(&self, p: u16) -> Option<Place> {
+        self.sites.get(p as usize).map(|site| Place {
+            kind: site.kind,
+            cartridge: self.table.number_at(p),
+            in_service: site.in_service,
+        })
     }
 
-    fn cartridge(&self, p: u16) -> Option<u32> {
-        match self.place(p) {
-            Some(place) => Some(place.cartridge),
-            None => None,
-        }
+    fn store(&mut self, _: &Granted, p: u16, number: u32, hand: u32) {
+        self.hold(p, number, hand);
     }
 
-    fn in_service(&self, p: u16) -> Option<bool> {
-        match self.place(p) {
-            Some(place) => Some(place.in_service),
-            None => None,
-        }
-    }
-}
-
-impl Robot for TagFrame {
-    fn lift(&mut self, p: u16) -> Result<u32, Fault> {
-        let number = may_lift(self, p)?;
-        self.clear(p, number);
-        Ok(number)
-    }
-
-    fn set(&mut self, p: u16) -> Result<(), Fault> {
-        may_set(self, p)?;
-        self.fill(p, self.hand, 0);
-        Ok(())
-    }
-
-    fn put(&mut self, p: u16, number: u32) -> Result<(), Fault> {
-        may_put(self, p, number)?;
-        self.fill(p, number, self.hand);
-        Ok(())
-    }
-
-    fn take(&mut self, p: u16) -> Result<u32, Fault> {
-        let number = may_take(self, p)?;
-        self.clear(p, self.hand);
-        Ok(number)
-    }
-
-    fn switch(&mut self, p: u16, on: bool) -> Result<(), Fault> {
-        may_switch(self, p)?;
-        self.turn(p, on);
-        Ok(())
+    fn turn(&mut self, _: &Granted, p: u16, on: bool) {
+        self.sites[p as usize].in_service = on;
     }
 }

@@ -1,5 +1,4 @@
-use Rattle.std.proofs.Common.{◌≡◌, rules}
-use Rattle.robot_moves.specs.Movement.{movement}
+use Rattle.std.proofs.Common.{rules}
 use Rattle.robot_moves.proofs.Moving.{no_target_fits, no_target, refused_fits, set_refused, movement_keeps}
 use Rattle.robot_moves.proofs.movement.move_cartridge.Goals as goal
 
@@ -31,16 +30,10 @@ returns-in-Err g c =
     c.in_ok-slip.ensures.answer c.lift.ensures.after c.in-Some.ensures c.in-Err.ensures.answer c.set.ensures.after c.put_back-in-Err.ensures in
     record { answer = w.0; after = w.1; kept = movement_keeps m n c.args.from c.args.target (g.met.R.Questions.sound c.args.robot.now) w.1 }
 
-pub returns-in_err-slip : goal.returns-in_err-slip
-returns-in_err-slip g c =
-    let m = g.R.Questions.meaning c.args.robot.now in
-    let n = g.R.Questions.meaning c.lift.new.robot in
-    let a : n ≡ (movement m c.args.from c.args.target).robot = search rules in
-    record { answer = search rules; after = a; kept = movement_keeps m n c.args.from c.args.target (g.met.R.Questions.sound c.args.robot.now) a }
+pub returns-in_err-slip-clause-kept : goal.returns-in_err-slip-clause-kept
+returns-in_err-slip-clause-kept g c =
+    movement_keeps (g.R.Questions.meaning c.args.robot.now) (g.R.Questions.meaning c.lift.new.robot) c.args.from c.args.target (g.met.R.Questions.sound c.args.robot.now) (search rules)
 
-pub returns-in-Ok : goal.returns-in-Ok
-returns-in-Ok g c =
-    let m = g.R.Questions.meaning c.args.robot.now in
-    let n = g.R.Questions.meaning c.set.new.robot in
-    let a : n ≡ (movement m c.args.from c.args.target).robot = search rules in
-    record { answer = search rules; after = a; kept = movement_keeps m n c.args.from c.args.target (g.met.R.Questions.sound c.args.robot.now) a }
+pub returns-in-Ok-clause-kept : goal.returns-in-Ok-clause-kept
+returns-in-Ok-clause-kept g c =
+    movement_keeps (g.R.Questions.meaning c.args.robot.now) (g.R.Questions.meaning c.set.new.robot) c.args.from c.args.target (g.met.R.Questions.sound c.args.robot.now) (search rules)

@@ -1,7 +1,10 @@
-use Rattle.std.proofs.Common.{rules}
-use Rattle.robot_moves.proofs.Places.{ports_more}
+use Rattle.std.proofs.Common.{◌∙◌}
+use Rattle.robots.specs.Meaning.{count}
+use Rattle.robot_moves.specs.Search.{up_to}
+use Rattle.robot_moves.proofs.Places.{ports_counted}
 use Rattle.robot_moves.proofs.search.port_count.Goals as goal
 
-pub loop-i-preserved : goal.loop-i-preserved
-loop-i-preserved g c =
-    let e = ports_more (g.Q.Questions.meaning c.args.robot.now) c.loop-i.i c.places-n.result c.loop-i-test.true in search rules
+pub returns : goal.returns
+returns g c =
+    let m = g.Q.Questions.meaning c.args.robot.now in
+    c.count_of.ensures ∙ ports_counted m (up_to 0 (count m))

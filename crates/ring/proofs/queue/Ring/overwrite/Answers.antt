@@ -1,15 +1,22 @@
-use Rattle.std.proofs.Common.{◌<◌, set, refl, arith, length-set}
-use Rattle.ring.proofs.Slots.{replaced, sound, unused}
+use Rattle.std.proofs.Common.{◌<◌, refl, arith}
+use Rattle.ring.proofs.Slots.{length_records, replaced, unused}
 use Rattle.ring.proofs.queue.Ring.overwrite.Goals as goal
+
+pub slot-at-requires : goal.slot-at-requires
+slot-at-requires g c = let q = c.args.self.now in omega (arith, length_records q, q.counted)
+
+pub bounds-self-at : goal.bounds-self-at
+bounds-self-at g c =
+    let q = c.args.self.now in
+    let h : c.args.i < q.capacity = omega (arith, length_records q, q.counted) in
+    omega (arith, c.slot-at.ensures.within h, q.lent)
 
 pub returns : goal.returns
 returns g c =
     let q = c.args.self.now in
-    let o = c.requires.sound in
-    let i : c.args.i < q.count = omega (arith, o.3, c.requires.within) in
-    let r : c.args.i < q.capacity = omega arith in
+    let i : c.args.i < q.count = omega (arith, length_records q) in
+    let h : c.args.i < q.capacity = omega (arith, q.counted) in
     record {
-      records = replaced q c.slot-at.result c.args.i c.args.x o c.slot-at.ensures.at i;
-      sound = sound q.capacity q.head q.count (set q.slots.now c.slot-at.result c.args.x) (simp length-set o.0) o.1 o.2;
-      kept = record { capacity = refl; unused = unused q c.slot-at.result c.args.x o (c.slot-at.ensures.within r) };
+      records = replaced q c.slot-at.result c.args.i c.args.x c.slot-at.ensures.at i;
+      kept = record { capacity = refl; unused = unused q c.slot-at.result c.args.x (c.slot-at.ensures.within h) };
     }
