@@ -92,22 +92,15 @@ impl Body {
         ensures { result ≡ command_in self }
     {
         match self {
-            Body::Cancel { target: _ } => Command::Cancel,
-            Body::Dismount {
-                label: _,
-                drive: _,
-                force: _,
-            } => Command::Dismount,
-            Body::Eject { label: _ } => Command::Eject,
+            Body::Cancel { .. } => Command::Cancel,
+            Body::Dismount { .. } => Command::Dismount,
+            Body::Eject { .. } => Command::Eject,
             Body::Enter => Command::Enter,
-            Body::Idle { force: _ } => Command::Idle,
-            Body::Mount { label: _, drive: _ } => Command::Mount,
-            Body::Query { label: _ } => Command::Query,
+            Body::Idle { .. } => Command::Idle,
+            Body::Mount { .. } => Command::Mount,
+            Body::Query { .. } => Command::Query,
             Body::Start => Command::Start,
-            Body::Vary {
-                drive: _,
-                setting: _,
-            } => Command::Vary,
+            Body::Vary { .. } => Command::Vary,
         }
     }
 }

@@ -42,8 +42,8 @@ impl From<Cause> for Status {
             Cause::Short => Status::Short,
             Cause::Long => Status::Long,
             Cause::UnknownCommand => Status::UnknownCommand,
-            Cause::WrongBit { bit: _ } => Status::WrongBit,
-            Cause::WrongCharacter { index: _ } => Status::WrongCharacter,
+            Cause::WrongBit { .. } => Status::WrongBit,
+            Cause::WrongCharacter { .. } => Status::WrongCharacter,
             Cause::WrongDriveState => Status::WrongDriveState,
         }
     }
