@@ -38,12 +38,12 @@ impl Label {
         }
     }
 
-    /// Whether both are one and the same: what the derived comparison decides, as a contract.
+    /// Whether both are one and the same.
     pub fn is(&self, other: &Label) -> bool
         ensures value { result ≡ bytes_eq self.now.chars other.now.chars }
         ensures decides { Decides result (self.now ≡ other.now) }
     {
-        self == other
+        self.eq(other)
     }
 
     /// The characters.

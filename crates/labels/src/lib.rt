@@ -5,7 +5,10 @@
 #![tactic(auto)]
 
 ghost use Rattle.labels.specs.Characters.{all_right};
-ghost use Rattle.std.specs.Prelude.{◌≡◌, true};
+ghost use Rattle.std.specs.Prelude.{◌≡◌, true, bytes_eq, Decides};
+ghost use Rattle.std.specs.Cmp.Rules.{comparing};
+ghost use Rattle.std.proofs.Common.{rules, arith};
+ghost use Rattle.std.specs.Cmp as Keys;
 
 mod characters;
 mod examples;
@@ -26,10 +29,24 @@ pub const HIGHEST_NUMBER: u32 = 2_176_782_336;
 pub const UNREADABLE_NUMBER: u32 = 2_176_782_337;
 
 /// Six characters out of 0-9 and A-Z.
-#[derive(Clone, Copy, PartialEq, Eq, Debug)]
+#[derive(Clone, Copy, Eq, Debug)]
 pub struct Label {
     chars: [u8; 6],
     ghost right: { all_right chars ≡ true },
+}
+
+/// A derived comparison would promise nothing of the characters.
+impl PartialEq for Label {
+    ghost eq = { λ x y. bytes_eq x.chars y.chars };
+
+    ghost laws = { Prim.search (comparing, rules) };
+
+    fn eq(&self, other: &Label) -> bool
+        ensures value { result ≡ bytes_eq self.now.chars other.now.chars }
+        ensures decides { Decides result (self.now ≡ other.now) }
+    {
+        self.chars == other.chars
+    }
 }
 
 /// Where the first character stands that no label has, counted from 0.

@@ -33,6 +33,10 @@ status_of_number status.NoPortPlace = refl
 status_of_number status.UnreadableLabel = refl
 status_of_number status.LibraryFailure = refl
 
+-- Two statuses with one number are the same.
+pub same_status : (a b : Status) → status_number a ≡ status_number b → a ≡ b
+same_status a b e = let f : Some a ≡ Some b = sym (status_of_number a) ∙ ap status_of e ∙ status_of_number b in cc
+
 none_some : (s : Status) → None ≡ Some s → ⊥
 none_some s h = let z : ◌≡◌ {A = ℕ} 0 1 = cc in omega arith
 

@@ -5,11 +5,14 @@
 
 ghost use Rattle.statuses.specs.Statuses.{layer_number, row, status_named, status_number};
 ghost use Rattle.std.specs.Prelude.{◌≡◌, ◌==◌, Decides};
+ghost use Rattle.std.specs.Cmp.Rules.{comparing};
+ghost use Rattle.std.proofs.Common.{rules};
+ghost use Rattle.std.specs.Cmp as Keys;
 
 mod words;
 
 /// How a request ended, or why it was refused. The default is what a blank entry has.
-#[derive(Clone, Copy, PartialEq, Eq, Debug, Default)]
+#[derive(Clone, Copy, Eq, Debug, Default)]
 pub enum Status {
     #[default]
     Success,
@@ -38,6 +41,20 @@ pub enum Status {
     NoPortPlace,
     UnreadableLabel,
     LibraryFailure,
+}
+
+/// A derived comparison would promise nothing of so many variants.
+impl PartialEq for Status {
+    ghost eq = { λ x y. status_number x == status_number y };
+
+    ghost laws = { Prim.search (comparing, rules) };
+
+    fn eq(&self, other: &Status) -> bool
+        ensures value { result ≡ (status_number self.now == status_number other.now) }
+        ensures decides { Decides result (self.now ≡ other.now) }
+    {
+        u8::from(*self) == u8::from(*other)
+    }
 }
 
 /// Which part refuses.
@@ -116,12 +133,12 @@ impl TryFrom<u8> for Status {
 }
 
 impl Status {
-    /// Whether both are one and the same: what the derived comparison decides, as a contract.
+    /// Whether both are one and the same: what the comparison decides.
     pub fn is(self, other: Status) -> bool
         ensures value { result ≡ (status_number self == status_number other) }
         ensures decides { Decides result (self ≡ other) }
     {
-        self == other
+        self.eq(&other)
     }
 
     /// The layer that refuses by it; success is no refusal.

@@ -1,3 +1,5 @@
+ghost use Rattle.std.specs.Prelude.{◌++◌, Some, codes, decimal};
+
 use crate::{Status, UnknownStatus};
 use std::error::Error;
 use std::fmt;
@@ -43,6 +45,8 @@ impl fmt::Display for Status {
 }
 
 impl fmt::Display for UnknownStatus {
+    ghost output = { λ s. Some (codes "no status has the number " ++ decimal s.code) };
+
     fn fmt<W: fmt::Write>(&self, f: &mut fmt::Formatter<W>) -> fmt::Result {
         write!(f, "no status has the number {}", self.code)
     }

@@ -2,7 +2,7 @@ use Rattle.std.proofs.Common.{ap}
 use Rattle.std.proofs.lemmas.Slice.Eq.{slice_eq-Decides}
 use Rattle.labels.specs.declared.Label.{Label}
 use Rattle.labels.proofs.Same.{same_label}
-use Rattle.labels.proofs.Label.is.Goals as goal
+use Rattle.labels.proofs.LabelPartialEq.eq.Goals as goal
 use Rattle.std.proofs.lemmas.Bool.Decides.{Decides-eqb}
 
 pub returns-clause-decides : goal.returns-clause-decides
