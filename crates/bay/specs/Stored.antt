@@ -1,16 +1,38 @@
--- A list of places that is changed at one place.
-use Rattle.std.specs.Prelude.{◌≡◌, ℕ, zero, suc, ◌≤◌, Bool, List, [], ◌∷◌, map, length, slice_index, slice_index_or, slice_set}
-use Rattle.std.proofs.Common.{ap, arith}
-use Rattle.std.proofs.lemmas.List.{length-map, map-set}
+-- A list of places, read by a part, and changed at one place.
+use Rattle.std.specs.Prelude.{◌≡◌, ℕ, zero, suc, ◌<◌, ◌≤◌, Bool, true, false, List, [], ◌∷◌, map, length, Some, None, nat_lt, slice_index, slice_index_or, slice_set}
+use Rattle.std.proofs.Common.{sym, ap, ◌∙◌, arith}
+use Rattle.std.proofs.lemmas.Bool.{lt-ltb, le-ltb}
+use Rattle.std.proofs.lemmas.List.{get_or-map, length-map, map-set}
 use Rattle.std.proofs.Math.Seq.{map-set_same}
 use Rattle.labels.specs.Numbers.{unreadable_number}
+use Rattle.robots.specs.declared.kind.Kind.TheVariants.{Cell}
 use Rattle.robots.specs.declared.place.Place.{Place}
 use Rattle.robots.specs.Meaning.{Sound}
 use Rattle.robots.specs.Acts.{with_held, with_service}
-use Rattle.robots.specs.Making.{place_kind, place_cartridge, place_service, meaning_of}
+use Rattle.robots.specs.Making.{place_kind, place_cartridge, place_service, meaning_of, place_asked}
 use Rattle.bay.specs.Numbered.{Numbered}
 
--- Here x is what stands at p.
+-- Here x is what stands at i.
+part : {Y : Type 0} (f : Place → Y) (xs : List Place) (i : ℕ) (x : Place) (e : Y) → i < length xs → x ≡ slice_index_or xs i x → slice_index_or (map f xs) i e ≡ f x
+part f xs i x e h q = get_or-map f xs i x e h ∙ ap f (sym q)
+
+pub place_is : (xs : List Place) (h p : ℕ) (x : Place) → p < length xs → x ≡ slice_index_or xs p x → Some x ≡ place_asked (meaning_of xs h) p
+place_is xs h p x l q =
+    let a = part place_kind xs p x Cell l q in
+    let b = part place_cartridge xs p x 0 l q in
+    let d = part place_service xs p x false l q in
+    let t : nat_lt p (length (map place_kind xs)) ≡ true = lt-ltb p (length (map place_kind xs)) (simp length-map l) in
+    simp (t, a, b, d)
+
+pub no_place : (xs : List Place) (h p : ℕ) → length xs ≤ p → None ≡ place_asked (meaning_of xs h) p
+no_place xs h p l =
+    let t : nat_lt p (length (map place_kind xs)) ≡ false = le-ltb p (length (map place_kind xs)) (simp length-map l) in
+    simp t
+
+pub number_within : (xs : List Place) (p : ℕ) (x : Place) → Numbered xs → p < length xs → x ≡ slice_index_or xs p x → x.cartridge ≤ unreadable_number
+number_within xs p x n l q = omega (arith, n p, part place_cartridge xs p x 0 l q)
+
+-- What is kept after a change; here x is what stands at p.
 pub stored : (xs : List Place) (p : ℕ) (x : Place) (v h k : ℕ) → x ≡ slice_index_or xs p x → meaning_of (slice_set xs p (record { kind = x.kind; cartridge = v; in_service = x.in_service })) k ≡ with_held (meaning_of xs h) p v k
 stored xs p x v h k q =
     let y : Place = record { kind = x.kind; cartridge = v; in_service = x.in_service } in

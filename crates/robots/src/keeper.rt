@@ -3,7 +3,7 @@
 ghost use Rattle.labels.specs.Numbers.{unreadable_number};
 ghost use Rattle.robots.specs.Acts.{with_held, with_service};
 ghost use Rattle.robots.specs.Making.{place_asked};
-ghost use Rattle.robots.specs.Meaning.{Meaning, Sound, count};
+ghost use Rattle.robots.specs.Meaning.{Meaning, Sound, count, held_at};
 ghost use Rattle.std.specs.Prelude.{◌≡◌, ◌<◌, ◌≤◌};
 
 use crate::fault::Fault;
@@ -11,15 +11,20 @@ use crate::kind::Kind;
 use crate::ladders::{may_lift, may_put, may_set, may_switch, may_take};
 use crate::place::Place;
 use crate::robot::{Questions, Robot};
+use std::marker::PhantomData;
 
-/// Says that an act was granted. Only the acts below make one, and they lend it: a keeper cannot keep it
-/// for later, so nothing but an act changes what is kept.
+/// Says that an act on a `K` was granted. Only the acts below make one, and they lend it: a keeper cannot
+/// keep it for later, nor use it on a keeper of another type, so nothing but an act changes what a `K` keeps.
 #[derive(Drop)]
-pub struct Granted {
-    granted: (),
+pub struct Granted<K> {
+    of: PhantomData<K>,
 }
 
-const GRANTED: Granted = Granted { granted: () };
+impl<K> Granted<K> {
+    fn new() -> Granted<K> {
+        Granted { of: PhantomData }
+    }
+}
 
 /// What is kept of the places and of the hand. `store` and `turn` test nothing: the acts do that before.
 pub trait Keeper {
@@ -39,14 +44,27 @@ pub trait Keeper {
 
     /// Place p and the hand now hold these.
     // A number stays a plain `u32`, with its bound here: a caller of `put` may give any, and wrong ones are refused.
-    fn store(&mut self, granted: &Granted, p: u16, number: u32, hand: u32)
+    fn store(&mut self, granted: &Granted<Self>, p: u16, number: u32, hand: u32)
         requires within { p < count (kept self.old) }
         requires numbered { number ≤ unreadable_number }
         requires handed { hand ≤ unreadable_number }
         ensures { kept self.new ≡ with_held (kept self.old) p number hand };
 
+    /// The empty place p and the hand now hold these: what `store` does, for a keeper that has less to do at
+    /// an empty place.
+    fn fill(&mut self, granted: &Granted<Self>, p: u16, number: u32, hand: u32)
+        requires within { p < count (kept self.old) }
+        requires empty { held_at (kept self.old) p ≡ 0 }
+        requires some { 0 < number }
+        requires numbered { number ≤ unreadable_number }
+        requires handed { hand ≤ unreadable_number }
+        ensures { kept self.new ≡ with_held (kept self.old) p number hand }
+    {
+        self.store(granted, p, number, hand);
+    }
+
     /// Place p is now in service, or out of it.
-    fn turn(&mut self, granted: &Granted, p: u16, on: bool)
+    fn turn(&mut self, granted: &Granted<Self>, p: u16, on: bool)
         requires { p < count (kept self.old) }
         ensures { kept self.new ≡ with_service (kept self.old) p on };
 
@@ -82,31 +100,31 @@ impl<K: Keeper> Questions for K {
 impl<K: Keeper> Robot for K {
     fn lift(&mut self, p: u16) -> Result<u32, Fault> {
         let number = may_lift(self, p)?;
-        self.store(&GRANTED, p, 0, number);
+        self.store(&Granted::new(), p, 0, number);
         Ok(number)
     }
 
     fn set(&mut self, p: u16) -> Result<(), Fault> {
         may_set(self, p)?;
-        self.store(&GRANTED, p, self.hand(), 0);
+        self.fill(&Granted::new(), p, self.hand(), 0);
         Ok(())
     }
 
     fn put(&mut self, p: u16, number: u32) -> Result<(), Fault> {
         may_put(self, p, number)?;
-        self.store(&GRANTED, p, number, self.hand());
+        self.fill(&Granted::new(), p, number, self.hand());
         Ok(())
     }
 
     fn take(&mut self, p: u16) -> Result<u32, Fault> {
         let number = may_take(self, p)?;
-        self.store(&GRANTED, p, 0, self.hand());
+        self.store(&Granted::new(), p, 0, self.hand());
         Ok(number)
     }
 
     fn switch(&mut self, p: u16, on: bool) -> Result<(), Fault> {
         may_switch(self, p)?;
-        self.turn(&GRANTED, p, on);
+        self.turn(&Granted::new(), p, on);
         Ok(())
     }
 }

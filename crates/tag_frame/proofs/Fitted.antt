@@ -1,15 +1,13 @@
 -- A frame's sites, changed at one place, and those of places.
-use Rattle.std.proofs.Common.{◌≡◌, ℕ, ◌+◌, Bool, List, [], ◌∷◌, map, length, get_or, set, replicate, sym, refl, ap, ◌∙◌}
+use Rattle.std.proofs.Common.{◌≡◌, ℕ, Bool, List, [], ◌∷◌, map, get_or, set, refl, ap, ◌∙◌}
 use Rattle.std.proofs.lemmas.List.{map-set}
 use Rattle.std.proofs.Math.Seq.{map-set_same}
 use Rattle.robots.specs.declared.place.Place.{Place}
-use Rattle.robots.specs.Acts.{with_held, with_service}
-use Rattle.robots.specs.Meaning.{Meaning}
-use Rattle.robots.specs.Making.{place_kind, place_service}
+use Rattle.robots.specs.Acts.{with_service}
+use Rattle.robots.specs.Making.{place_kind, place_service, place_cartridge, meaning_of}
 use Rattle.tag_frame.specs.declared.site.Site.{Site}
 use Rattle.tag_frame.specs.Frames.{meant}
 use Rattle.tag_frame.specs.Sites.{site_of, site_kind, site_service}
-use Rattle.tag_frame.proofs.Filling.{filled, filled_more, filled_none}
 
 -- Here s is what stands at p.
 pub turned : (ss : List Site) (held : List ℕ) (hand p : ℕ) (s : Site) (o : Bool) → s ≡ get_or ss p s → meant (set ss p (record { kind = s.kind; in_service = o })) held hand ≡ with_service (meant ss held hand) p o
@@ -26,18 +24,8 @@ service_of : (xs : List Place) → map site_service (map site_of xs) ≡ map pla
 service_of [] = refl
 service_of (x ∷ xs) = ap (λ z. x.in_service ∷ z) (service_of xs)
 
--- What is meant by places of which only the first i hold what they should, and the others nothing.
-abbrev pub meant_up_to : ℕ → List Place → ℕ → Meaning
-meant_up_to i xs hand = record { kinds = map place_kind xs; held = filled i xs; service = map place_service xs; hand = hand }
-
-pub meant_none : (ss : List Site) (held : List ℕ) (hand : ℕ) (xs : List Place) → ss ≡ map site_of xs → held ≡ replicate (length xs) 0 → meant ss held hand ≡ meant_up_to 0 xs hand
-meant_none ss held hand xs e h =
+pub meant_of : (ss : List Site) (held : List ℕ) (hand : ℕ) (xs : List Place) → ss ≡ map site_of xs → held ≡ map place_cartridge xs → meant ss held hand ≡ meaning_of xs hand
+meant_of ss held hand xs e h =
     let a = ap (map site_kind) e ∙ kinds_of xs in
     let b = ap (map site_service) e ∙ service_of xs in
-    let d = h ∙ sym (filled_none xs) in
-    simp (a, b, d)
-
-pub meant_more : (i : ℕ) (xs : List Place) (hand : ℕ) (d : Place) (m n : Meaning) → m ≡ meant_up_to i xs hand → n ≡ with_held m i (get_or xs i d).cartridge hand → n ≡ meant_up_to (i + 1) xs hand
-meant_more i xs hand d m n e f =
-    let g = filled_more xs i d in
-    f ∙ ap (λ (z : Meaning). with_held z i (get_or xs i d).cartridge hand) e ∙ simp g
+    simp (a, b, h)

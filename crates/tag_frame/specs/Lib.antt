@@ -3,3 +3,4 @@ pub mod Tables
 pub mod Sites
 pub mod Frames
 pub mod Tagged
+pub mod Listed

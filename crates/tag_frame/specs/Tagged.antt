@@ -13,19 +13,19 @@ use Rattle.tag_frame.specs.declared.tag.Tag.{Tag}
 use Rattle.tag_frame.specs.Tags.{lookup, absent, tidy, held_of, all_but, retagged}
 
 -- What the test tells of the first cartridge and of the rest.
-tidy_tells : (n : ℕ) (t : Tag) (ts : List Tag) → tidy n (t ∷ ts) ≡ true → (t.place < n) × (0 < t.number) × (t.number ≤ unreadable_number) × (absent t.place ts ≡ true) × (tidy n ts ≡ true)
+pub tidy_tells : (n : ℕ) (t : Tag) (ts : List Tag) → tidy n (t ∷ ts) ≡ true → (t.place < n) × (0 < t.number) × (t.number ≤ unreadable_number) × (absent t.place ts ≡ true) × (tidy n ts ≡ true)
 tidy_tells n t ts e = grind (arith, nat_tests, cases_Bool (absent t.place ts), cases_Bool (tidy n ts))
 
-tidy_makes : (n : ℕ) (t : Tag) (ts : List Tag) → t.place < n → 0 < t.number → t.number ≤ unreadable_number → absent t.place ts ≡ true → tidy n ts ≡ true → tidy n (t ∷ ts) ≡ true
+pub tidy_makes : (n : ℕ) (t : Tag) (ts : List Tag) → t.place < n → 0 < t.number → t.number ≤ unreadable_number → absent t.place ts ≡ true → tidy n ts ≡ true → tidy n (t ∷ ts) ≡ true
 tidy_makes n t ts a b d e f = grind (arith, nat_tests)
 
-absent_tells : (p : ℕ) (t : Tag) (ts : List Tag) → absent p (t ∷ ts) ≡ true → (t.place ≢ p) × (absent p ts ≡ true)
+pub absent_tells : (p : ℕ) (t : Tag) (ts : List Tag) → absent p (t ∷ ts) ≡ true → (t.place ≢ p) × (absent p ts ≡ true)
 absent_tells p t ts e = grind (arith, nat_tests, cases_Bool (absent p ts))
 
-absent_makes : (p : ℕ) (t : Tag) (ts : List Tag) → (t.place ≢ p) → absent p ts ≡ true → absent p (t ∷ ts) ≡ true
+pub absent_makes : (p : ℕ) (t : Tag) (ts : List Tag) → (t.place ≢ p) → absent p ts ≡ true → absent p (t ∷ ts) ≡ true
 absent_makes p t ts a b = grind (arith, nat_tests)
 
-lookup_absent : (p : ℕ) (ts : List Tag) → absent p ts ≡ true → lookup ts p ≡ 0
+pub lookup_absent : (p : ℕ) (ts : List Tag) → absent p ts ≡ true → lookup ts p ≡ 0
 lookup_absent p [] e = refl
 lookup_absent p (t ∷ ts) e =
     let a = absent_tells p t ts e in
@@ -49,7 +49,7 @@ lookup_past n p (t ∷ ts) o h =
 pub held_length : (n : ℕ) (ts : List Tag) → length (held_of n ts) ≡ n
 held_length n ts = length-map-range_with_len (lookup ts) 0 n
 
-held_found : (n : ℕ) (ts : List Tag) (p : ℕ) → tidy n ts ≡ true → slice_index (held_of n ts) p ≡ lookup ts p
+pub held_found : (n : ℕ) (ts : List Tag) (p : ℕ) → tidy n ts ≡ true → slice_index (held_of n ts) p ≡ lookup ts p
 held_found n ts p o =
     ⊎_elim
     (λ (h : p < n). get_or-map-range_with_len (lookup ts) 0 n p p 0 h (omega arith))
@@ -60,7 +60,7 @@ pub held_number : (n : ℕ) (ts : List Tag) (p : ℕ) → tidy n ts ≡ true →
 held_number n ts p o = rw (held_found n ts p o) (lookup_number n p ts o)
 
 -- The holdings after a change at one place.
-held_set : (f g : ℕ → ℕ) (n p v : ℕ) → ((q : ℕ) → g q ≡ cond (p == q) v (f q)) → map g (range_with_len 0 n) ≡ slice_set (map f (range_with_len 0 n)) p v
+pub held_set : (f g : ℕ → ℕ) (n p v : ℕ) → ((q : ℕ) → g q ≡ cond (p == q) v (f q)) → map g (range_with_len 0 n) ≡ slice_set (map f (range_with_len 0 n)) p v
 held_set f g n p v h =
     same_lists (map g (range_with_len 0 n)) (slice_set (map f (range_with_len 0 n)) p v)
     (length-map-range_with_len g 0 n ∙ sym (length-set (map f (range_with_len 0 n)) p v ∙ length-map-range_with_len f 0 n))
@@ -81,7 +81,7 @@ held_set f g n p v h =
     (cases_eq k p))
 
 -- One more at the end.
-lookup_push : (ts : List Tag) (t : Tag) (q : ℕ) → absent t.place ts ≡ true → lookup (ts ++ t ∷ []) q ≡ cond (t.place == q) t.number (lookup ts q)
+pub lookup_push : (ts : List Tag) (t : Tag) (q : ℕ) → absent t.place ts ≡ true → lookup (ts ++ t ∷ []) q ≡ cond (t.place == q) t.number (lookup ts q)
 lookup_push [] t q a = refl
 lookup_push (s ∷ ss) t q a =
     let b = absent_tells t.place s ss a in
@@ -94,7 +94,7 @@ absent_push p (s ∷ ss) t a h =
     let b = absent_tells p s ss a in
     absent_makes p s (ss ++ t ∷ []) b.0 (absent_push p ss t b.1 h)
 
-tidy_push : (n : ℕ) (ts : List Tag) (t : Tag) → tidy n ts ≡ true → t.place < n → 0 < t.number → t.number ≤ unreadable_number → absent t.place ts ≡ true → tidy n (ts ++ t ∷ []) ≡ true
+pub tidy_push : (n : ℕ) (ts : List Tag) (t : Tag) → tidy n ts ≡ true → t.place < n → 0 < t.number → t.number ≤ unreadable_number → absent t.place ts ≡ true → tidy n (ts ++ t ∷ []) ≡ true
 tidy_push n [] t o a b d e = tidy_makes n t [] a b d refl refl
 tidy_push n (s ∷ ss) t o a b d e =
     let w = tidy_tells n s ss o in
@@ -180,7 +180,7 @@ all_empty zero = refl
 all_empty (suc n) = let ih = all_empty n in omega arith
 
 -- Each place has a cartridge in the list, or is empty.
-full_or_empty : (n : ℕ) (ts : List Tag) → tidy n ts ≡ true → length ts + tally 0 (held_of n ts) ≡ n
+pub full_or_empty : (n : ℕ) (ts : List Tag) → tidy n ts ≡ true → length ts + tally 0 (held_of n ts) ≡ n
 full_or_empty n [] o = let e = ap (tally 0) (none_held n [] refl) ∙ all_empty n in omega arith
 full_or_empty n (t ∷ ts) o =
     let w = tidy_tells n t ts o in
@@ -193,7 +193,7 @@ full_or_empty n (t ∷ ts) o =
     let k = ap (tally 0) e in
     omega arith
 
-some_empty : (xs : List ℕ) (p : ℕ) → p < length xs → slice_index xs p ≡ 0 → 0 < tally 0 xs
+pub some_empty : (xs : List ℕ) (p : ℕ) → p < length xs → slice_index xs p ≡ 0 → 0 < tally 0 xs
 some_empty [] p h e = absurd (omega arith)
 some_empty (x ∷ xs) zero h e = rw e (omega arith)
 some_empty (x ∷ xs) (suc p) h e = let ih = some_empty xs p (omega arith) e in omega arith

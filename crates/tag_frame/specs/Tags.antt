@@ -1,5 +1,5 @@
 -- A list of cartridges, each with its place.
-use Rattle.std.specs.Prelude.{ℕ, Bool, true, cond, not, ◌&&◌, List, [], ◌∷◌, ◌++◌, map, filter, ◌==◌, nat_lt}
+use Rattle.std.specs.Prelude.{ℕ, suc, Bool, true, cond, not, ◌&&◌, List, [], ◌∷◌, ◌++◌, map, filter, ◌==◌, nat_lt}
 use Rattle.labels.specs.Labels.{is_cartridge_number}
 use Rattle.std.specs.List.{range_with_len}
 use Rattle.tag_frame.specs.declared.tag.Tag.{Tag}
@@ -8,6 +8,11 @@ use Rattle.tag_frame.specs.declared.tag.Tag.{Tag}
 abbrev pub lookup : List Tag → ℕ → ℕ
 lookup [] p = 0
 lookup (t ∷ ts) p = cond (t.place == p) t.number (lookup ts p)
+
+-- Where in the list p stands; the list's length if it does not.
+abbrev pub index_of : List Tag → ℕ → ℕ
+index_of [] p = 0
+index_of (t ∷ ts) p = cond (t.place == p) 0 (suc (index_of ts p))
 
 -- No cartridge is at p.
 abbrev pub absent : ℕ → List Tag → Bool

@@ -38,12 +38,12 @@ impl Keeper for Bay {
         self.places.get(p as usize).copied()
     }
 
-    fn store(&mut self, _: &Granted, p: u16, number: u32, hand: u32) {
+    fn store(&mut self, _: &Granted<Bay>, p: u16, number: u32, hand: u32) {
         self.places[p as usize].cartridge = number;
         self.hand = hand;
     }
 
-    fn turn(&mut self, _: &Granted, p: u16, on: bool) {
+    fn turn(&mut self, _: &Granted<Bay>, p: u16, on: bool) {
         self.places[p as usize].in_service = on;
     }
 }

@@ -24,12 +24,8 @@ impl TagFrame {
     {
         check_places(places, hand)?;
         let sites = sites_of(heap, places)?;
-        let table = Table::empty(heap, places.len() as u16)?;
-        let mut frame = TagFrame { sites, table, hand };
-        for (p, place) in places.iter().enumerate() {
-            frame.hold(p as u16, place.cartridge, hand);
-        }
-        Ok(frame)
+        let table = Table::of_places(heap, places)?;
+        Ok(TagFrame { sites, table, hand })
     }
 
     /// Place p and the hand now hold these. The table is changed by value, and written back whole.
@@ -76,11 +72,18 @@ impl Keeper for TagFrame {
         })
     }
 
-    fn store(&mut self, _: &Granted, p: u16, number: u32, hand: u32) {
+    fn store(&mut self, _: &Granted<TagFrame>, p: u16, number: u32, hand: u32) {
         self.hold(p, number, hand);
     }
 
-    fn turn(&mut self, _: &Granted, p: u16, on: bool) {
+    // The list is not searched for an empty place.
+    fn fill(&mut self, _: &Granted<TagFrame>, p: u16, number: u32, in_hand: u32) {
+        let table = mem::replace(&mut self.table, Table::none(*self.sites.allocator()));
+        self.table = table.add(p, number);
+        self.hand = in_hand;
+    }
+
+    fn turn(&mut self, _: &Granted<TagFrame>, p: u16, on: bool) {
         self.sites[p as usize].in_service = on;
     }
 }
