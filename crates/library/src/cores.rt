@@ -10,7 +10,7 @@ use stock::stock::Stock;
 pub mod acts;
 
 /// The request at work, and how far it has come.
-#[derive(Drop)]
+#[derive(Clone, Copy)]
 pub struct Work {
     pub request: Request,
     pub progress: Progress,

@@ -6,7 +6,7 @@ use crate::state::State;
 use crate::verdict::Verdict;
 
 /// How far a request at work has come: the next place that it treats, and its entries so far.
-#[derive(Drop)]
+#[derive(Clone, Copy)]
 pub struct Progress {
     pub next: u16,
     pub entries: Entries,
@@ -26,7 +26,7 @@ impl Progress {
 }
 
 /// Whether a request stays at work or ends. No `Result`: neither is a failure.
-#[derive(Drop)]
+#[derive(Clone, Copy)]
 pub enum Goes {
     /// It goes on from here.
     Stays(Progress),
@@ -35,7 +35,7 @@ pub enum Goes {
 }
 
 /// What one step makes of a request, beside what it does to robot and catalogue.
-#[derive(Drop)]
+#[derive(Clone, Copy)]
 pub struct Turn {
     pub state: State,
     pub notice: Option<Notice>,

@@ -12,7 +12,7 @@ use statuses::Status;
 use stock::refusal::Refusal;
 
 /// What a final has behind its status.
-#[derive(Drop)]
+#[derive(Clone, Copy)]
 pub enum Tail {
     Nothing,
     One(Entry),
@@ -21,7 +21,7 @@ pub enum Tail {
 }
 
 /// How a request ends, before its final is written.
-#[derive(Drop)]
+#[derive(Clone, Copy)]
 pub struct Verdict {
     pub status: Status,
     pub detail: Option<u8>,
@@ -29,10 +29,21 @@ pub struct Verdict {
 }
 
 /// A final: the request that it ends, and how.
-#[derive(Drop)]
+#[derive(Clone, Copy)]
 pub struct Final {
     pub request: Request,
     pub verdict: Verdict,
+}
+
+/// Success, telling a state by its number.
+pub fn told(state: u8) -> Verdict
+    ensures { verdict_of result ≡ told_state state }
+{
+    Verdict {
+        status: Status::Success,
+        detail: Some(state),
+        tail: Tail::Nothing,
+    }
 }
 
 impl Verdict {
@@ -51,11 +62,7 @@ impl Verdict {
     pub fn told(state: State) -> Verdict
         ensures { verdict_of result ≡ told_state (state_number state) }
     {
-        Verdict {
-            status: Status::Success,
-            detail: Some(u8::from(state)),
-            tail: Tail::Nothing,
-        }
+        told(u8::from(state))
     }
 
     /// A refusal.

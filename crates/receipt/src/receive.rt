@@ -25,7 +25,7 @@ use stock::refusal::Refusal;
 use stock::stock::movements::{entry_for, located};
 
 /// What a received request is answered. No `Result`: neither is a failure.
-#[derive(Drop)]
+#[derive(Clone, Copy)]
 pub enum Answer {
     /// It was queued.
     Acknowledge(Request),

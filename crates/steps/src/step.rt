@@ -83,7 +83,7 @@ pub fn step<R: Robot>(core: &mut Core<R>) -> Option<Final>
     ensures answer { final_in result ≡ (stepped (library_of core.old)).final }
     ensures library { library_of core.new ≡ (stepped (library_of core.old)).library }
 {
-    match core.work.take() {
+    match core.work {
         Some(work) => {
             let turn = go_on_with(&mut core.stock, core.state, work.request, work.progress);
             finish(core, work.request, turn)
