@@ -26,6 +26,7 @@ const TAKE: u8 = 0x42;
 const SERVICE: u8 = 0x43;
 
 /// The packet that a code below 40 stands before: its low five bits are the length, and bit 5 says that it is asked.
+#[inline]
 fn packet_call(code: u8, rest: &[u8]) -> Option<(Call<'_>, &[u8])>
     ensures { IfSome result (λ p. length p.1.now ≤ length rest.now) }
 {
@@ -43,6 +44,7 @@ fn packet_call(code: u8, rest: &[u8]) -> Option<(Call<'_>, &[u8])>
 }
 
 /// The first call of a script, and what stands behind it.
+#[inline]
 fn next_call(script: &[u8]) -> Option<(Call<'_>, &[u8])>
     ensures { IfSome result (λ p. length p.1.now < length script.now) }
 {
@@ -78,6 +80,7 @@ impl<'a> Iterator for Calls<'a> {
 
     ghost remaining = { λ calls. at_most (length calls.script.now) };
 
+    #[inline]
     fn next(&mut self) -> Option<Call<'a>> {
         let (call, rest) = next_call(self.script)?;
         self.script = rest;

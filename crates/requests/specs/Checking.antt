@@ -46,6 +46,17 @@ wrongs c f =
     ∷ wrong_at c 16 (is_some f.place) ∷ wrong_at c 32 (is_some f.target) ∷ wrong_at c 64 (is_some f.drive_state)
     ∷ has_bit f.map 128 ∷ []
 
+-- Whether a bit, counted from 0, is wrong.
+abbrev pub wrong_bit : Command → Fields → ℕ → Bool
+wrong_bit c f b =
+    cond (b == 0) (wrong_at c 1 (is_some f.number))
+    (cond (b == 1) (wrong_at c 2 (is_some f.command))
+    (cond (b == 2) (cond (wrong_at c 4 (is_some f.option)) true (wrong_option f.option))
+    (cond (b == 3) (wrong_at c 8 (is_some f.label))
+    (cond (b == 4) (wrong_at c 16 (is_some f.place))
+    (cond (b == 5) (wrong_at c 32 (is_some f.target))
+    (cond (b == 6) (wrong_at c 64 (is_some f.drive_state)) (has_bit f.map 128)))))))
+
 -- The place of the first that is true, where the first of the list stands at i.
 abbrev pub first_true : ℕ → List Bool → Option ℕ
 first_true i [] = None

@@ -1,7 +1,8 @@
 //! The fields checked by the table of commands, and the request that they make.
 
-ghost use Rattle.requests.specs.Checking.{bits_by, body_of, checked, command_field, label_field, lowest_wrong, setting_field, wrong_at, wrong_option, wrongs};
-ghost use Rattle.std.specs.Prelude.{◌≡◌, is_some, None};
+ghost use Rattle.requests.specs.Checking.{bits_by, body_of, checked, command_field, label_field, lowest_wrong, setting_field, wrong_at, wrong_bit, wrong_option};
+ghost use Rattle.std.specs.Prelude.{◌≡◌, find, is_some, None};
+ghost use Rattle.std.specs.List.{range_with_len};
 
 use crate::bodies::{Body, DriveSetting, Mark, Request};
 use crate::commands::Command;
@@ -36,28 +37,34 @@ pub(crate) fn wrong_option(option: Option<u8>) -> bool
     option.is_some_and(|v| v != 1)
 }
 
-/// Of each bit, from 0 on, whether it is missing, not taken, or an option's other than 1.
-fn wrongs(command: Command, f: Fields) -> [bool; 8]
-    ensures { result ≡ wrongs command f }
+/// Whether the bit, counted from 0, is missing, not taken, or an option's other than 1.
+fn is_wrong(command: Command, f: Fields, bit: u8) -> bool
+    ensures { result ≡ wrong_bit command f bit }
 {
-    [
-        wrong_at(command, 1, f.number.is_some()),
-        wrong_at(command, 2, f.command.is_some()),
-        wrong_at(command, 4, f.option.is_some()) || wrong_option(f.option),
-        wrong_at(command, 8, f.label.is_some()),
-        wrong_at(command, 16, f.place.is_some()),
-        wrong_at(command, 32, f.target.is_some()),
-        wrong_at(command, 64, f.drive_state.is_some()),
-        has(f.map, 128),
-    ]
+    match bit {
+        0 => wrong_at(command, 1, f.number.is_some()),
+        1 => wrong_at(command, 2, f.command.is_some()),
+        2 => wrong_at(command, 4, f.option.is_some()) || wrong_option(f.option),
+        3 => wrong_at(command, 8, f.label.is_some()),
+        4 => wrong_at(command, 16, f.place.is_some()),
+        5 => wrong_at(command, 32, f.target.is_some()),
+        6 => wrong_at(command, 64, f.drive_state.is_some()),
+        _ => has(f.map, 128),
+    }
+}
+
+/// The first bit that is wrong.
+fn first_wrong(command: Command, f: Fields) -> Option<u8>
+    ensures { result ≡ find (wrong_bit command f) (range_with_len 0 8) }
+{
+    (0..8u8).find(|bit| is_wrong(command, f, *bit))
 }
 
 /// The lowest bit that is wrong.
 fn lowest_wrong(command: Command, f: Fields) -> Option<u8>
     ensures { result ≡ lowest_wrong command f }
 {
-    let bit = wrongs(command, f).iter().position(|wrong| *wrong)?;
-    Some(bit as u8)
+    first_wrong(command, f)
 }
 
 /// Whether no bit is wrong; else the lowest is told.

@@ -1,4 +1,4 @@
-ghost use Rattle.std.specs.Prelude.{◌≡◌, ◌+◌, ◌<◌, ◌==◌, [], IfOk, IfSome, drop, length};
+ghost use Rattle.std.specs.Prelude.{◌≡◌, ◌+◌, ◌<◌, ◌≤◌, ◌==◌, [], IfOk, IfSome, drop, length};
 ghost use Rattle.stock.specs.Filing.{filed_more, index_of, refiled, unfiled, volume_of};
 ghost use Rattle.std.specs.List.{list_any, position_from};
 
@@ -13,11 +13,20 @@ fn first_row(rows: &[Filed], number: u32) -> Option<usize>
     rows.iter().position(|row| row.number == number)
 }
 
+/// Whether a row has this number.
+fn any_in(rows: &[Filed], number: u32) -> bool
+    ensures { result ≡ list_any (λ row. row.number == number) rows.now }
+{
+    rows.iter().any(|row| row.number == number)
+}
+
 /// Whether a row from `from` on has this number.
 fn any_from(rows: &[Filed], from: usize, number: u32) -> bool
+    requires { from ≤ length rows.now }
     ensures { result ≡ list_any (λ row. row.number == number) (drop from rows.now) }
 {
-    rows.iter().skip(from).any(|row| row.number == number)
+    // No `skip`: it would go through the rows before once more.
+    any_in(&rows[from..], number)
 }
 
 /// The row that is the first with this number, or that there is another too.
