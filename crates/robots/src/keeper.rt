@@ -14,7 +14,8 @@ use crate::robot::{Questions, Robot};
 use std::marker::PhantomData;
 
 /// Says that an act on a `K` was granted. Only the acts below make one, and they lend it: a keeper cannot
-/// keep it for later, nor use it on a keeper of another type, so nothing but an act changes what a `K` keeps.
+/// keep it for later, nor use it on a keeper of another type. So on a keeper that passes no grant on nothing
+/// but an act calls `store`, `fill` or `turn`.
 #[derive(Drop)]
 pub struct Granted<K> {
     of: PhantomData<K>,
@@ -26,7 +27,7 @@ impl<K> Granted<K> {
     }
 }
 
-/// What is kept of the places and of the hand. `store` and `turn` test nothing: the acts do that before.
+/// What is kept of the places and of the hand. `store`, `fill` and `turn` test nothing: the acts do that before.
 pub trait Keeper {
     ghost kept: { Self → Meaning };
 
